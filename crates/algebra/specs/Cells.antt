@@ -1,0 +1,79 @@
+-- Cells, comparisons and aggregates (paper 01, "The set of tables" and "The plan"). Definitions only.
+-- A cell is held as its signed 32-bit code plus 2^31, so that the order of cells is the order of codes.
+use Prim.Native.Nat.{ℕ, zero, suc, _+_, _*_, _-_, min, max}
+use mathlib.Core.Bool.{Bool, true, false, not, cond, _&&_}
+use mathlib.Core.List.{List, [], _∷_, foldr}
+use lib.Dec.{eqb, ltb, leb}
+use lib.ListN.{length}
+use Rattle.algebra.specs.Lists.{filter, any, total}
+
+pub data Comparison : Type 0 where
+  eq ne lt le gt ge : Comparison
+
+pub data Summary : Type 0 where
+  sum least greatest : Summary
+
+-- Count names no column.
+pub data Aggregate : Type 0 where
+  count : Aggregate
+  over : Summary → ℕ → Aggregate
+
+-- code -2,147,483,648
+abbrev pub blank : ℕ
+blank = 0
+
+-- code 2,147,483,647
+abbrev pub offScale : ℕ
+offScale = 4294967295
+
+-- the cell of the number 0
+abbrev pub origin : ℕ
+origin = 2147483648
+
+-- the largest number
+abbrev pub reach : ℕ
+reach = 2000000000
+
+-- a cell of a number from -2,000,000,000 to 2,000,000,000
+abbrev pub inRange : ℕ → Bool
+inRange x = leb (origin - reach) x && leb x (origin + reach)
+
+abbrev pub isNumber : ℕ → Bool
+isNumber x = not (eqb x blank) && not (eqb x offScale)
+
+abbrev pub order : Comparison → ℕ → ℕ → Bool
+order eq a b = eqb a b
+order ne a b = not (eqb a b)
+order lt a b = ltb a b
+order le a b = leb a b
+order gt a b = ltb b a
+order ge a b = leb b a
+
+-- a comparison with a blank or off-scale side is false
+unfoldable pub compares : Comparison → ℕ → ℕ → Bool
+compares c a b = isNumber a && (isNumber b && order c a b)
+
+-- the comparison that says the same with its sides exchanged
+abbrev pub turn : Comparison → Comparison
+turn eq = eq
+turn ne = ne
+turn lt = gt
+turn le = ge
+turn gt = lt
+turn ge = le
+
+-- n numbers whose cells add up to s: the cell of their sum, off scale where it leaves the range
+abbrev pub sumOf : ℕ → ℕ → ℕ
+sumOf n s = cond (leb (n * origin) (s + reach) && leb s (n * origin + reach)) (s + origin - n * origin) offScale
+
+-- of cells that are numbers: their sum; the least and the greatest, blank for none
+abbrev pub summary : Summary → List ℕ → ℕ
+summary sum xs = sumOf (length xs) (total xs)
+summary least [] = blank
+summary least (x ∷ xs) = foldr min x xs
+summary greatest xs = foldr max blank xs
+
+-- the aggregate of the measured cells of the rows that pass: blanks are skipped, and an off-scale cell makes it off scale
+unfoldable pub aggregate : Aggregate → List ℕ → ℕ
+aggregate count xs = origin + length xs
+aggregate (over k c) xs = cond (any (eqb offScale) xs) offScale (summary k (filter (λ x. not (eqb x blank)) xs))

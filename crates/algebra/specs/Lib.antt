@@ -1,0 +1,9 @@
+pub mod Lists
+pub mod Cells
+pub mod Plans
+pub mod Places
+pub mod Names
+pub mod Refusals
+pub mod Rules
+pub mod Steps
+pub mod StayNotes
