@@ -7,3 +7,4 @@ pub mod Refusals
 pub mod Rules
 pub mod Steps
 pub mod StayNotes
+pub mod Demand3

@@ -1,0 +1,12 @@
+-- The examples, the laws of the definitions, and demand 3.
+pub mod Lists
+pub mod Cells
+pub mod Free
+pub mod Change
+pub mod Places
+pub mod Sound
+pub mod Bounds
+pub mod Refusals
+pub mod Readings
+pub mod Steps
+pub mod StayNotes
