@@ -1,0 +1,268 @@
+-- The whole check by its parts, and what acceptance gives. Assumes nothing.
+use Prim.Native.Nat.{ℕ, zero, suc, _+_, _*_, _≤_, _<_}
+use mathlib.Core.Bool.{Bool, true, false, not, _&&_, true≢false, false≢true, and-eq-true-iff}
+use mathlib.Core.Path.{_≡_, refl, ap, sym, _∙_, subst}
+use mathlib.Core.List.{List, [], _∷_, _++_, map}
+use native.Mathlib.Omega.{arith}
+use native.Mathlib.Nat.{mul-le-mul}
+use lib.Dec.{eqb, ltb, leb}
+use lib.ListN.{length, drop}
+use borrow.Author.Tests.{leb-true}
+use Rattle.algebra.specs.Lists.{if_then_else_, all, total}
+use Rattle.algebra.specs.Plans.{Tables, Plan}
+use Rattle.algebra.specs.Places.{size, flatten, subtrees}
+use Rattle.algebra.specs.Names.{introduced}
+use Rattle.algebra.specs.Refusals.{refusal, need, region, bound, width, found, once, inView, narrow, low}
+use Rattle.algebra.proofs.Places.{subtrees-length}
+use Rattle.algebra.proofs.Refusals.{Unrefused, refusal-none, refusal-0, refusal-11, refusal-12, refusal-13, refusal-14}
+use Rattle.reading.specs.Bytes.{startsWith, allBelow}
+use Rattle.reading.specs.TableSet.{tableMark, sizeAllowed, cellBytes, cellsOf, cellsAllowed, readTable, readFrom, readSet, afterTable, amountOf, tablesOf}
+use Rattle.reading.specs.Plan.{readPlan, nodesOf, planMark, nodesAllowed}
+use Rattle.reading.specs.Tree.{operatorAt, planAt, planOf, wholeTree}
+use Rattle.reading.specs.Nodes.{idsOf}
+use Rattle.reading.specs.Check.{setNumber, planNumber, orNext, treeNumber, planRefusal, inputRefusal, answer, checkOf}
+use Rattle.reading.specs.declared.set.SetRead.{SetRead}
+use Rattle.reading.specs.declared.set.SetRead.the-variants.{Holds, Refused}
+use Rattle.reading.specs.declared.set.TableRead.{TableRead}
+use Rattle.reading.specs.declared.set.TableRead.the-variants.{Whole, Bad}
+use Rattle.reading.specs.declared.plan.PlanRead.{PlanRead}
+use Rattle.reading.specs.declared.plan.PlanRead.the-variants.{Nodes, Refused as PlanRefused}
+use Rattle.reading.specs.declared.input.Checked.{Checked}
+use Rattle.reading.specs.declared.input.Checked.the-variants.{Accepted, Refused as InputRefused}
+use Rattle.reading.proofs.Places.{whole-size, whole-found, whole-introduced, whole-all}
+use Rattle.reading.proofs.PlanBytes.{plan-known}
+
+-- ---- no refusal has the number 0
+
+if-both : {A : Type 0} (P : A → Type 0) (b : Bool) (x y : A) → P x → P y → P (if b then x else y)
+if-both P true x y p q = p
+if-both P false x y p q = q
+
+abbrev TablePositive : TableRead → Type 0
+TablePositive (Bad k) = 0 < k
+TablePositive (Whole n) = Unit {0}
+
+table-tests : (b₁ b₂ b₃ b₄ b₅ : Bool) (n : ℕ) → TablePositive (if b₁ then Bad 1 else if b₂ then Bad 2 else if b₃ then Bad 3 else if b₄ then Bad 1 else if b₅ then Bad 4 else Whole n)
+table-tests true b₂ b₃ b₄ b₅ n = omega arith
+table-tests false true b₃ b₄ b₅ n = omega arith
+table-tests false false true b₄ b₅ n = omega arith
+table-tests false false false true b₅ n = omega arith
+table-tests false false false false true n = omega arith
+table-tests false false false false false n = tt
+
+table-positive : (t : List ℕ) → TablePositive (readTable t)
+unfolding readTable
+table-positive t =
+    table-tests (ltb (length t) 8) (not (startsWith tableMark t)) (not (sizeAllowed t)) (ltb (length t) (8 + cellBytes t)) (not (cellsAllowed (cellsOf t))) (8 + cellBytes t)
+
+abbrev SetPositive : SetRead → Type 0
+SetPositive (Refused k) = 0 < k
+SetPositive (Holds n) = Unit {0}
+
+from-positive : (left found : ℕ) (s : List ℕ) → SetPositive (readFrom left found s)
+unfolding readFrom
+from-positive zero found s = if-both SetPositive (eqb (length s) 0) _ _ tt (omega arith)
+from-positive (suc left) found s =
+    if-both SetPositive (eqb (length s) 0) _ _ tt (by (readTable s) (table-positive s) (λ n. from-positive left (found + 1) (drop n s)))
+  where
+    by : (r : TableRead) → TablePositive r → ((n : ℕ) → SetPositive (readFrom left (found + 1) (drop n s)))
+        → SetPositive (afterTable r (λ bytes. readFrom left (found + 1) (drop bytes s)))
+    by (Bad k) p go = p
+    by (Whole n) p go = go n
+
+pub set-positive : (set : List ℕ) (k : ℕ) → readSet set ≡ Refused k → 0 < k
+unfolding readSet
+set-positive set k e = subst SetPositive e (from-positive 8 0 set)
+
+abbrev PlanPositive : PlanRead → Type 0
+PlanPositive (PlanRefused k) = 0 < k
+PlanPositive (Nodes n) = Unit {0}
+
+plan-outcomes : (b₁ b₂ b₃ b₄ b₅ : Bool) (n : ℕ)
+    → PlanPositive (if b₁ then PlanRefused 6 else if b₂ then PlanRefused 7 else if b₃ then PlanRefused 8 else if b₄ then PlanRefused 6 else if b₅ then PlanRefused 9 else Nodes n)
+plan-outcomes true b₂ b₃ b₄ b₅ n = omega arith
+plan-outcomes false true b₃ b₄ b₅ n = omega arith
+plan-outcomes false false true b₄ b₅ n = omega arith
+plan-outcomes false false false true b₅ n = omega arith
+plan-outcomes false false false false true n = omega arith
+plan-outcomes false false false false false n = tt
+
+pub plan-positive : (plan : List ℕ) (k : ℕ) → readPlan plan ≡ PlanRefused k → 0 < k
+unfolding readPlan
+plan-positive plan k e =
+    let n : ℕ = nodesOf plan in
+    subst PlanPositive e
+    (plan-outcomes (ltb (length plan) 6) (not (startsWith planMark plan)) (not (leb 1 n && leb n 64)) (not (eqb (length plan) (6 + 24 * n))) (not (nodesAllowed n plan)) n)
+
+-- ---- the node count of a plan that was read
+
+refused-nodes : {C : Type 0} (k n : ℕ) → PlanRefused k ≡ Nodes n → C
+refused-nodes k n e = let z : _≡_ {A = ℕ} 0 1 = cc in absurd (omega arith)
+
+count-by : (b₁ b₂ b₃ b₄ b₅ : Bool) (m n : ℕ)
+    → (if b₁ then PlanRefused 6 else if b₂ then PlanRefused 7 else if b₃ then PlanRefused 8 else if b₄ then PlanRefused 6 else if b₅ then PlanRefused 9 else Nodes m) ≡ Nodes n
+    → m ≡ n
+count-by true b₂ b₃ b₄ b₅ m n e = refused-nodes 6 n e
+count-by false true b₃ b₄ b₅ m n e = refused-nodes 7 n e
+count-by false false true b₄ b₅ m n e = refused-nodes 8 n e
+count-by false false false true b₅ m n e = refused-nodes 6 n e
+count-by false false false false true m n e = refused-nodes 9 n e
+count-by false false false false false m n e = cc
+
+pub plan-count : (plan : List ℕ) (n : ℕ) → readPlan plan ≡ Nodes n → nodesOf plan ≡ n
+unfolding readPlan
+plan-count plan n e =
+    let k : ℕ = nodesOf plan in
+    count-by (ltb (length plan) 6) (not (startsWith planMark plan)) (not (leb 1 k && leb k 64)) (not (eqb (length plan) (6 + 24 * k))) (not (nodesAllowed k plan)) k n e
+
+-- ---- the check by its parts
+
+answer-refused : (number tables nodes cells : ℕ) → 0 < number → answer number tables nodes cells ≡ InputRefused number
+answer-refused zero tables nodes cells h = absurd (omega arith)
+answer-refused (suc number) tables nodes cells h = refl
+
+or-first : (number next : ℕ) → 0 < number → orNext number next ≡ number
+or-first zero next h = absurd (omega arith)
+or-first (suc number) next h = refl
+
+module _ (set plan : List ℕ) where
+  pub check-set : (k : ℕ) → readSet set ≡ Refused k → checkOf set plan ≡ InputRefused k
+  unfolding checkOf inputRefusal
+  check-set k e =
+      let p : 0 < k = set-positive set k e in
+      let q : orNext (setNumber (readSet set)) (planRefusal set plan) ≡ k = ap (λ (r : SetRead). orNext (setNumber r) (planRefusal set plan)) e ∙ or-first k (planRefusal set plan) p in
+      ap (λ (z : ℕ). answer z (amountOf (readSet set)) (nodesOf plan) (need (tablesOf set) (planOf plan))) q ∙ answer-refused k _ _ _ p
+
+  module _ (tables : ℕ) (s : readSet set ≡ Holds tables) where
+    from-plan : checkOf set plan ≡ answer (planRefusal set plan) tables (nodesOf plan) (need (tablesOf set) (planOf plan))
+    unfolding checkOf inputRefusal
+    from-plan = ap (λ (r : SetRead). answer (orNext (setNumber r) (planRefusal set plan)) (amountOf r) (nodesOf plan) (need (tablesOf set) (planOf plan))) s
+
+    pub check-plan : (k : ℕ) → readPlan plan ≡ PlanRefused k → checkOf set plan ≡ InputRefused k
+    unfolding planRefusal
+    check-plan k e =
+        let p : 0 < k = plan-positive plan k e in
+        let next : ℕ = orNext (treeNumber plan) (refusal (tablesOf set) (planOf plan)) in
+        let q : orNext (planNumber (readPlan plan)) next ≡ k = ap (λ (r : PlanRead). orNext (planNumber r) next) e ∙ or-first k next p in
+        from-plan ∙ ap (λ (z : ℕ). answer z tables (nodesOf plan) (need (tablesOf set) (planOf plan))) q ∙ answer-refused k _ _ _ p
+
+    module _ (nodes : ℕ) (r : readPlan plan ≡ Nodes nodes) where
+      from-tree : checkOf set plan ≡ answer (orNext (treeNumber plan) (refusal (tablesOf set) (planOf plan))) tables nodes (need (tablesOf set) (planOf plan))
+      unfolding planRefusal
+      from-tree =
+          from-plan
+          ∙ ap (λ (z : PlanRead). answer (orNext (planNumber z) (orNext (treeNumber plan) (refusal (tablesOf set) (planOf plan)))) tables (nodesOf plan) (need (tablesOf set) (planOf plan))) r
+          ∙ ap (λ (n : ℕ). answer (orNext (treeNumber plan) (refusal (tablesOf set) (planOf plan))) tables n (need (tablesOf set) (planOf plan))) (plan-count plan nodes r)
+
+      pub check-tree : wholeTree plan ≡ false → checkOf set plan ≡ InputRefused 10
+      check-tree h = from-tree ∙ rw h
+
+      pub check-refused : wholeTree plan ≡ true → (k : ℕ) → 0 < k → refusal (tablesOf set) (planOf plan) ≡ k → checkOf set plan ≡ InputRefused k
+      check-refused h k p e = from-tree ∙ rw (h, e) (answer-refused k _ _ _ p)
+
+      pub check-accepted : wholeTree plan ≡ true → refusal (tablesOf set) (planOf plan) ≡ 0 → checkOf set plan ≡ Accepted tables nodes (need (tablesOf set) (planOf plan))
+      check-accepted h e = from-tree ∙ rw (h, e)
+
+-- ---- 11 to 14 as the code meets them: place by place
+
+module _ (set plan : List ℕ) (tables nodes : ℕ) (s : readSet set ≡ Holds tables) (r : readPlan plan ≡ Nodes nodes) (w : wholeTree plan ≡ true) where
+  abbrev T : Tables
+  T = tablesOf set
+
+  abbrev n : ℕ
+  n = nodesOf plan
+
+  pub check-11 : allBelow n (λ i. found T (operatorAt plan i)) ≡ false → checkOf set plan ≡ InputRefused 11
+  check-11 f = check-refused set plan tables s nodes r w 11 (omega arith) (refusal-11 T (planOf plan) (whole-found plan w T ∙ f))
+
+  module _ (f : allBelow n (λ i. found T (operatorAt plan i)) ≡ true) where
+    f′ : all (found T) (flatten (planOf plan)) ≡ true
+    f′ = whole-found plan w T ∙ f
+
+    twelve : once (introduced T (planOf plan)) && inView T [] (planOf plan) ≡ false → checkOf set plan ≡ InputRefused 12
+    twelve h = check-refused set plan tables s nodes r w 12 (omega arith) (refusal-12 T (planOf plan) f′ h)
+
+    pub check-12-once : once (idsOf T plan n 0) ≡ false → checkOf set plan ≡ InputRefused 12
+    check-12-once o = twelve (rw (whole-introduced plan w T, o))
+
+    module _ (o : once (idsOf T plan n 0) ≡ true) where
+      pub check-12-view : inView T [] (planOf plan) ≡ false → checkOf set plan ≡ InputRefused 12
+      check-12-view v = twelve (rw (whole-introduced plan w T, o, v))
+
+      module _ (v : inView T [] (planOf plan) ≡ true) where
+        v′ : once (introduced T (planOf plan)) && inView T [] (planOf plan) ≡ true
+        v′ = rw (whole-introduced plan w T, o, v)
+
+        pub check-13 : allBelow n (λ i. narrow T (planAt plan i)) ≡ false → checkOf set plan ≡ InputRefused 13
+        check-13 a = check-refused set plan tables s nodes r w 13 (omega arith) (refusal-13 T (planOf plan) f′ v′ (whole-all plan w (narrow T) ∙ a))
+
+        module _ (a : allBelow n (λ i. narrow T (planAt plan i)) ≡ true) where
+          pub check-14 : allBelow n (λ i. low T (planAt plan i)) ≡ false → checkOf set plan ≡ InputRefused 14
+          check-14 b =
+              check-refused set plan tables s nodes r w 14 (omega arith)
+              (refusal-14 T (planOf plan) f′ v′ (whole-all plan w (narrow T) ∙ a) (whole-all plan w (low T) ∙ b))
+
+          pub check-passed : allBelow n (λ i. low T (planAt plan i)) ≡ true → checkOf set plan ≡ Accepted tables nodes (need T (planOf plan))
+          check-passed b =
+              check-accepted set plan tables s nodes r w
+              (refusal-0 T (planOf plan) (record {
+                foundAll = f′;
+                introducedOnce = rw (whole-introduced plan w T) o;
+                inViewAll = v;
+                narrowAll = whole-all plan w (narrow T) ∙ a;
+                lowAll = whole-all plan w (low T) ∙ b;
+              }))
+
+-- ---- what acceptance gives
+
+pub record Acceptance (set plan : List ℕ) (tables nodes cells : ℕ) : Type 0 where
+  pub setRead : readSet set ≡ Holds tables
+  pub planRead : readPlan plan ≡ Nodes nodes
+  pub whole : wholeTree plan ≡ true
+  pub passed : refusal (tablesOf set) (planOf plan) ≡ 0
+  pub needs : cells ≡ need (tablesOf set) (planOf plan)
+
+accepted-is : (t n c t′ n′ c′ : ℕ) → Accepted t n c ≡ Accepted t′ n′ c′ → (t ≡ t′) × (n ≡ n′) × (c ≡ c′)
+accepted-is t n c t′ n′ c′ e = (cc, cc, cc)
+
+refused-accepted : {C : Type 0} (k t n c : ℕ) → InputRefused k ≡ Accepted t n c → C
+refused-accepted k t n c e = let z : _≡_ {A = ℕ} 0 1 = cc in absurd (omega arith)
+
+pub accepted : (set plan : List ℕ) (tables nodes cells : ℕ) → checkOf set plan ≡ Accepted tables nodes cells → Acceptance set plan tables nodes cells
+accepted set plan tables nodes cells e = by-set (readSet set) refl
+  where
+    by-number : (t n : ℕ) → readSet set ≡ Holds t → readPlan plan ≡ Nodes n → wholeTree plan ≡ true → (k : ℕ) → refusal (tablesOf set) (planOf plan) ≡ k → Acceptance set plan tables nodes cells
+    by-number t n s r w zero z =
+        let (a, b, c) = accepted-is _ _ _ _ _ _ (sym (check-accepted set plan t s n r w z) ∙ e) in
+        record { setRead = s ∙ ap Holds a; planRead = r ∙ ap Nodes b; whole = w; passed = z; needs = sym c }
+    by-number t n s r w (suc k) z = refused-accepted (suc k) _ _ _ (sym (check-refused set plan t s n r w (suc k) (omega arith) z) ∙ e)
+
+    by-tree : (t n : ℕ) → readSet set ≡ Holds t → readPlan plan ≡ Nodes n → (b : Bool) → wholeTree plan ≡ b → Acceptance set plan tables nodes cells
+    by-tree t n s r true w = by-number t n s r w (refusal (tablesOf set) (planOf plan)) refl
+    by-tree t n s r false w = refused-accepted 10 _ _ _ (sym (check-tree set plan t s n r w) ∙ e)
+
+    by-plan : (t : ℕ) → readSet set ≡ Holds t → (p : PlanRead) → readPlan plan ≡ p → Acceptance set plan tables nodes cells
+    by-plan t s (Nodes n) r = by-tree t n s r (wholeTree plan) refl
+    by-plan t s (PlanRefused k) r = refused-accepted k _ _ _ (sym (check-plan set plan t s k r) ∙ e)
+
+    by-set : (r : SetRead) → readSet set ≡ r → Acceptance set plan tables nodes cells
+    by-set (Holds t) s = by-plan t s (readPlan plan) refl
+    by-set (Refused k) s = refused-accepted k _ _ _ (sym (check-set set plan k s) ∙ e)
+
+-- each region has at most 4,096 rows of 32 cells
+total-most : (T : Tables) (ps : List Plan) → all (narrow T) ps ≡ true → all (low T) ps ≡ true → total (map (region T) ps) ≤ length ps * 131072
+total-most T [] h k = omega arith
+total-most T (p ∷ ps) h k =
+    let (a, b) = and-eq-true-iff (narrow T p) (all (narrow T) ps) .0 h in
+    let (c, d) = and-eq-true-iff (low T p) (all (low T) ps) .0 k in
+    let m : bound T p * width T p ≤ 4096 * 32 = mul-le-mul (leb-true _ _ c) (leb-true _ _ a) in
+    omega (arith, total-most T ps b d)
+
+-- the need of an accepted plan is at most 64 × 4,096 × 32 + 4,096 cells
+pub need-most : (set plan : List ℕ) (tables nodes cells : ℕ) → Acceptance set plan tables nodes cells → cells ≤ 8392704
+unfolding need
+need-most set plan tables nodes cells a =
+    let u = refusal-none (tablesOf set) (planOf plan) (a .passed) in
+    let n = plan-known plan (ap planNumber (a .planRead)) in
+    let t = total-most (tablesOf set) (subtrees (planOf plan)) (u .narrowAll) (u .lowAll) in
+    omega (arith, a .needs, t, subtrees-length (planOf plan), whole-size plan (a .whole), n .most)

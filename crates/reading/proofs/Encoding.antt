@@ -1,0 +1,348 @@
+-- A node whose fields are allowed is the encoding of its operator, byte for byte, and its operator's fields can be written. Assumes nothing.
+use Prim.Native.Nat.{ℕ, zero, suc, _+_, _*_, _≤_}
+use native.Mathlib.Omega.{arith}
+use mathlib.Core.Path.{_≡_, refl, sym, _∙_}
+use mathlib.Core.Bool.{true, _&&_}
+use mathlib.Core.List.{List, [], _∷_, _++_}
+use lib.ListN.{length, take, drop}
+use lib.Dec.{leb, ltb}
+use borrow.Author.Tests.{leb-true, ltb-true}
+use Rattle.algebra.specs.Refusals.{fields}
+use Rattle.reading.specs.Bytes.{byteAt, allBelow}
+use Rattle.reading.specs.Plan.{kindTable, kindEntry, limited, listEnds, listAllowed, testAllowed, countAllowed, fieldsAllowed, testOf, nodeOf}
+use Rattle.reading.specs.Tree.{operatorBy, operatorOf}
+use Rattle.reading.specs.Encoding.{listBytes, fieldBytes, nodeBytes}
+use Rattle.reading.proofs.Laws.{all-at}
+use Rattle.reading.proofs.Operators.{by-kind}
+use Rattle.reading.proofs.FieldBytes.{and-left, and-right, is-zero, is-byte, comparison-byte, mark-byte, aggregate-bytes, test-bytes, no-test, endsIn, list-bytes, list-fields, Bytes}
+
+-- ---- 24 bytes
+
+-- a list of length 8 and more starts with 8 numbers
+eight : (P : List ℕ → Type 0) (n : ℕ) (s : List ℕ) → length s ≡ 8 + n
+    → ((a b c d e f g h : ℕ) (r : List ℕ) → length r ≡ n → P (a ∷ b ∷ c ∷ d ∷ e ∷ f ∷ g ∷ h ∷ r)) → P s
+eight P n [] q k = absurd (omega arith)
+eight P n (a ∷ []) q k = absurd (omega arith)
+eight P n (a ∷ b ∷ []) q k = absurd (omega arith)
+eight P n (a ∷ b ∷ c ∷ []) q k = absurd (omega arith)
+eight P n (a ∷ b ∷ c ∷ d ∷ []) q k = absurd (omega arith)
+eight P n (a ∷ b ∷ c ∷ d ∷ e ∷ []) q k = absurd (omega arith)
+eight P n (a ∷ b ∷ c ∷ d ∷ e ∷ f ∷ []) q k = absurd (omega arith)
+eight P n (a ∷ b ∷ c ∷ d ∷ e ∷ f ∷ g ∷ []) q k = absurd (omega arith)
+eight P n (a ∷ b ∷ c ∷ d ∷ e ∷ f ∷ g ∷ h ∷ r) q k = k a b c d e f g h r (omega arith)
+
+none : (P : List ℕ → Type 0) (s : List ℕ) → length s ≡ 0 → P [] → P s
+none P [] q k = k
+none P (a ∷ s) q k = absurd (omega arith)
+
+-- what fields that are allowed say, one by one
+record Allowed (part : List ℕ) : Type 0 where
+  pub kind : ltb (byteAt part 0) 15 ≡ true
+  pub arg : leb (byteAt (drop 1 part) 0) (byteAt (drop (10 * byteAt part 0 + 1) kindTable) 0) ≡ true
+  pub id : leb (byteAt (drop 1 part) 1) (byteAt (drop (10 * byteAt part 0 + 1) kindTable) 1) ≡ true
+  pub left : leb (byteAt (drop 1 part) 2) (byteAt (drop (10 * byteAt part 0 + 1) kindTable) 2) ≡ true
+  pub right : leb (byteAt (drop 1 part) 3) (byteAt (drop (10 * byteAt part 0 + 1) kindTable) 3) ≡ true
+  pub comparison : leb (byteAt (drop 1 part) 4) (byteAt (drop (10 * byteAt part 0 + 1) kindTable) 4) ≡ true
+  pub column : leb (byteAt (drop 1 part) 5) (byteAt (drop (10 * byteAt part 0 + 1) kindTable) 5) ≡ true
+  pub rest : leb (byteAt (drop 1 part) 6) (byteAt (drop (10 * byteAt part 0 + 1) kindTable) 6) ≡ true
+  pub counts : countAllowed part ≡ true
+  pub list : listAllowed (kindEntry (byteAt part 0) 8) part ≡ true
+  pub test : testAllowed (kindEntry (byteAt part 0) 9) part ≡ true
+
+allowed-fields : (part : List ℕ) → fieldsAllowed part ≡ true → Allowed part
+unfolding fieldsAllowed
+allowed-fields part h =
+    let k = ltb (byteAt part 0) 15 in
+    let l = limited 7 (drop 1 part) (drop (10 * byteAt part 0 + 1) kindTable) in
+    let c = countAllowed part in
+    let s = listAllowed (kindEntry (byteAt part 0) 8) part in
+    let t = testAllowed (kindEntry (byteAt part 0) 9) part in
+    let h₁ = and-right k (l && (c && (s && t))) h in
+    let h₂ = and-right l (c && (s && t)) h₁ in
+    let h₃ = and-right c (s && t) h₂ in
+    let at = all-at 7 (λ j. leb (byteAt (drop 1 part) j) (byteAt (drop (10 * byteAt part 0 + 1) kindTable) j)) (and-left l (c && (s && t)) h₁) in
+    record {
+      kind = and-left k (l && (c && (s && t))) h;
+      arg = at 0 (omega arith);
+      id = at 1 (omega arith);
+      left = at 2 (omega arith);
+      right = at 3 (omega arith);
+      comparison = at 4 (omega arith);
+      column = at 5 (omega arith);
+      rest = at 6 (omega arith);
+      counts = and-left c (s && t) h₂;
+      list = and-left s t h₃;
+      test = and-right s t h₃;
+    }
+
+-- a node is the encoding of its operator, and its operator's fields can be written
+pub record Encoded (part : List ℕ) : Type 0 where
+  pub bytes : nodeBytes (operatorOf (nodeOf part)) ≡ part
+  pub allowed : Bytes part → fields (operatorOf (nodeOf part)) ≡ true
+
+together : {f f′ l l′ t t′ : List ℕ} → f ≡ f′ → l ≡ l′ → t ≡ t′ → f ++ (l ++ t) ≡ f′ ++ (l′ ++ t′)
+together p q r = cc
+
+fields-are : (k : ℕ) {a a′ i i′ l l′ r r′ c c′ q q′ z : ℕ} → a ≡ a′ → i ≡ i′ → l ≡ l′ → r ≡ r′ → c ≡ c′ → q ≡ q′ → z ≡ 0
+    → fieldBytes k a i l r c q ≡ k ∷ a′ ∷ i′ ∷ l′ ∷ r′ ∷ c′ ∷ q′ ∷ z ∷ []
+fields-are k p₁ p₂ p₃ p₄ p₅ p₆ p₇ = rw (p₁, p₂, p₃, p₄, p₅, p₆, p₇)
+
+zero-is : (a : ℕ) → leb a 0 ≡ true → 0 ≡ a
+zero-is a h = sym (is-zero a h)
+
+-- a node's bytes after its kind
+module _ (a i l r c q z n l₁ l₂ l₃ l₄ l₅ l₆ l₇ f o m s x y u w : ℕ) where
+  abbrev listPart : List ℕ
+  listPart = l₁ ∷ l₂ ∷ l₃ ∷ l₄ ∷ l₅ ∷ l₆ ∷ l₇ ∷ []
+
+  abbrev testPart : List ℕ
+  testPart = f ∷ o ∷ m ∷ s ∷ x ∷ y ∷ u ∷ w ∷ []
+
+  abbrev bytesOf : ℕ → List ℕ
+  bytesOf k = k ∷ a ∷ i ∷ l ∷ r ∷ c ∷ q ∷ z ∷ n ∷ l₁ ∷ l₂ ∷ l₃ ∷ l₄ ∷ l₅ ∷ l₆ ∷ l₇ ∷ f ∷ o ∷ m ∷ s ∷ x ∷ y ∷ u ∷ w ∷ []
+
+  list-ends : (k : ℕ) → listEnds (bytesOf k) n ≡ endsIn n listPart
+  unfolding listEnds allBelow
+  list-ends k = refl
+
+  no-list : (k : ℕ) → listAllowed 0 (bytesOf k) ≡ true → listBytes [] ≡ n ∷ listPart
+  no-list k h =
+      let h₁ = and-right (leb 0 n) (leb n 0 && listEnds (bytesOf k) n) h in
+      let e = is-zero n (and-left (leb n 0) (listEnds (bytesOf k) n) h₁) in
+      let g : endsIn 0 listPart ≡ true = rw e at (sym (list-ends k) ∙ and-right (leb n 0) (listEnds (bytesOf k) n) h₁) in
+      rw e (list-bytes listPart 0 refl (omega arith) g)
+
+  has-list : (k : ℕ) → listAllowed 1 (bytesOf k) ≡ true → (listBytes (take n listPart) ≡ n ∷ listPart) × (1 ≤ n) × (n ≤ 7)
+  has-list k h =
+      let h₁ = and-right (leb 1 n) (leb n 7 && listEnds (bytesOf k) n) h in
+      let g = leb-true n 7 (and-left (leb n 7) (listEnds (bytesOf k) n) h₁) in
+      (list-bytes listPart n refl g (sym (list-ends k) ∙ and-right (leb n 7) (listEnds (bytesOf k) n) h₁), leb-true 1 n (and-left _ _ h), g)
+
+  -- the list's bytes are bytes
+  list-of : {k : ℕ} → Bytes (bytesOf k) → Bytes listPart
+  list-of b zero = b 9
+  list-of b (suc zero) = b 10
+  list-of b (suc (suc zero)) = b 11
+  list-of b (suc (suc (suc zero))) = b 12
+  list-of b (suc (suc (suc (suc zero)))) = b 13
+  list-of b (suc (suc (suc (suc (suc zero))))) = b 14
+  list-of b (suc (suc (suc (suc (suc (suc zero)))))) = b 15
+  list-of b (suc (suc (suc (suc (suc (suc (suc j))))))) = omega arith
+
+  unit-bytes : Allowed (bytesOf 0) → Encoded (bytesOf 0)
+  unfolding nodeBytes operatorBy nodeOf testOf fields
+  unit-bytes A =
+      record {
+        bytes =
+            together
+            (fields-are 0 (zero-is a (A .arg)) (zero-is i (A .id)) (zero-is l (A .left)) (zero-is r (A .right)) (zero-is c (A .comparison)) (zero-is q (A .column)) (is-zero z (A .rest)))
+            (no-list 0 (A .list))
+            (sym (no-test f o m s x y u w (and-left _ _ (A .test))));
+        allowed = λ b. refl;
+      }
+
+  scan-bytes : Allowed (bytesOf 1) → Encoded (bytesOf 1)
+  unfolding nodeBytes operatorBy nodeOf testOf fields
+  scan-bytes A =
+      record {
+        bytes =
+            together
+            (fields-are 1 refl refl (zero-is l (A .left)) (zero-is r (A .right)) (zero-is c (A .comparison)) (zero-is q (A .column)) (is-zero z (A .rest)))
+            (no-list 1 (A .list))
+            (sym (no-test f o m s x y u w (and-left _ _ (A .test))));
+        allowed = λ b. rw (is-byte a (A .arg), is-byte i (A .id));
+      }
+
+  select-bytes : Allowed (bytesOf 2) → Encoded (bytesOf 2)
+  unfolding nodeBytes operatorBy nodeOf testOf fields
+  select-bytes A =
+      let T = test-bytes f o m s x y u w (A .test) in
+      record {
+        bytes =
+            together
+            (fields-are 2 (zero-is a (A .arg)) (zero-is i (A .id)) (zero-is l (A .left)) (zero-is r (A .right)) (zero-is c (A .comparison)) (zero-is q (A .column)) (is-zero z (A .rest)))
+            (no-list 2 (A .list))
+            (T .bytes);
+        allowed = λ b. T .allowed;
+      }
+
+  project-bytes : Allowed (bytesOf 3) → Encoded (bytesOf 3)
+  unfolding nodeBytes operatorBy nodeOf testOf fields
+  project-bytes A =
+      let L = has-list 3 (A .list) in
+      record {
+        bytes =
+            together
+            (fields-are 3 (zero-is a (A .arg)) (zero-is i (A .id)) (zero-is l (A .left)) (zero-is r (A .right)) (zero-is c (A .comparison)) (zero-is q (A .column)) (is-zero z (A .rest)))
+            (L .0)
+            (sym (no-test f o m s x y u w (and-left _ _ (A .test))));
+        allowed = λ b. list-fields listPart n refl (L .1) (L .2) (list-of b);
+      }
+
+  distinct-bytes : Allowed (bytesOf 4) → Encoded (bytesOf 4)
+  unfolding nodeBytes operatorBy nodeOf testOf fields
+  distinct-bytes A =
+      let L = has-list 4 (A .list) in
+      record {
+        bytes =
+            together
+            (fields-are 4 (zero-is a (A .arg)) (zero-is i (A .id)) (zero-is l (A .left)) (zero-is r (A .right)) (zero-is c (A .comparison)) (zero-is q (A .column)) (is-zero z (A .rest)))
+            (L .0)
+            (sym (no-test f o m s x y u w (and-left _ _ (A .test))));
+        allowed = λ b. list-fields listPart n refl (L .1) (L .2) (list-of b);
+      }
+
+  cross-bytes : Allowed (bytesOf 5) → Encoded (bytesOf 5)
+  unfolding nodeBytes operatorBy nodeOf testOf fields
+  cross-bytes A =
+      record {
+        bytes =
+            together
+            (fields-are 5 (zero-is a (A .arg)) (zero-is i (A .id)) (zero-is l (A .left)) (zero-is r (A .right)) (zero-is c (A .comparison)) (zero-is q (A .column)) (is-zero z (A .rest)))
+            (no-list 5 (A .list))
+            (sym (no-test f o m s x y u w (and-left _ _ (A .test))));
+        allowed = λ b. refl;
+      }
+
+  semi-bytes : Allowed (bytesOf 6) → Encoded (bytesOf 6)
+  unfolding nodeBytes operatorBy nodeOf testOf fields
+  semi-bytes A =
+      let T = test-bytes f o m s x y u w (A .test) in
+      record {
+        bytes =
+            together
+            (fields-are 6 (zero-is a (A .arg)) (zero-is i (A .id)) refl refl (zero-is c (A .comparison)) (zero-is q (A .column)) (is-zero z (A .rest)))
+            (no-list 6 (A .list))
+            (T .bytes);
+        allowed = λ b. rw (is-byte l (A .left), is-byte r (A .right), T .allowed);
+      }
+
+  anti-bytes : Allowed (bytesOf 7) → Encoded (bytesOf 7)
+  unfolding nodeBytes operatorBy nodeOf testOf fields
+  anti-bytes A =
+      let T = test-bytes f o m s x y u w (A .test) in
+      record {
+        bytes =
+            together
+            (fields-are 7 (zero-is a (A .arg)) (zero-is i (A .id)) refl refl (zero-is c (A .comparison)) (zero-is q (A .column)) (is-zero z (A .rest)))
+            (no-list 7 (A .list))
+            (T .bytes);
+        allowed = λ b. rw (is-byte l (A .left), is-byte r (A .right), T .allowed);
+      }
+
+  some-bytes : Allowed (bytesOf 8) → Encoded (bytesOf 8)
+  unfolding nodeBytes operatorBy nodeOf testOf fields
+  some-bytes A =
+      let T = test-bytes f o m s x y u w (A .test) in
+      record {
+        bytes =
+            together
+            (fields-are 8 (zero-is a (A .arg)) (zero-is i (A .id)) (zero-is l (A .left)) (zero-is r (A .right)) (zero-is c (A .comparison)) (zero-is q (A .column)) (is-zero z (A .rest)))
+            (no-list 8 (A .list))
+            (T .bytes);
+        allowed = λ b. T .allowed;
+      }
+
+  every-bytes : Allowed (bytesOf 9) → Encoded (bytesOf 9)
+  unfolding nodeBytes operatorBy nodeOf testOf fields
+  every-bytes A =
+      let T = test-bytes f o m s x y u w (A .test) in
+      record {
+        bytes =
+            together
+            (fields-are 9 (zero-is a (A .arg)) (zero-is i (A .id)) (zero-is l (A .left)) (zero-is r (A .right)) (zero-is c (A .comparison)) (zero-is q (A .column)) (is-zero z (A .rest)))
+            (no-list 9 (A .list))
+            (T .bytes);
+        allowed = λ b. T .allowed;
+      }
+
+  fold-bytes : Allowed (bytesOf 10) → Encoded (bytesOf 10)
+  unfolding nodeBytes operatorBy nodeOf testOf fields
+  fold-bytes A =
+      let T = test-bytes f o m s x y u w (A .test) in
+      let G = aggregate-bytes a q (A .arg) (A .column) (A .counts) in
+      record {
+        bytes =
+            together
+            (fields-are 10 (G .code) refl (zero-is l (A .left)) (zero-is r (A .right)) (zero-is c (A .comparison)) (G .column) (is-zero z (A .rest)))
+            (no-list 10 (A .list))
+            (T .bytes);
+        allowed = λ b. rw (G .allowed, is-byte i (A .id), T .allowed);
+      }
+
+  each-bytes : Allowed (bytesOf 11) → Encoded (bytesOf 11)
+  unfolding nodeBytes operatorBy nodeOf testOf fields
+  each-bytes A =
+      record {
+        bytes =
+            together
+            (fields-are 11 (zero-is a (A .arg)) (zero-is i (A .id)) (zero-is l (A .left)) (zero-is r (A .right)) (zero-is c (A .comparison)) (zero-is q (A .column)) (is-zero z (A .rest)))
+            (no-list 11 (A .list))
+            (sym (no-test f o m s x y u w (and-left _ _ (A .test))));
+        allowed = λ b. refl;
+      }
+
+  pair-bytes : Allowed (bytesOf 12) → Encoded (bytesOf 12)
+  unfolding nodeBytes operatorBy nodeOf testOf fields
+  pair-bytes A =
+      let T = test-bytes f o m s x y u w (A .test) in
+      let G = aggregate-bytes a q (A .arg) (A .column) (A .counts) in
+      record {
+        bytes =
+            together
+            (fields-are 12 (G .code) refl refl refl (comparison-byte c (A .comparison)) (G .column) (is-zero z (A .rest)))
+            (no-list 12 (A .list))
+            (T .bytes);
+        allowed = λ b. rw (G .allowed, is-byte i (A .id), is-byte l (A .left), is-byte r (A .right), T .allowed);
+      }
+
+  group-bytes : Allowed (bytesOf 13) → Encoded (bytesOf 13)
+  unfolding nodeBytes operatorBy nodeOf testOf fields
+  group-bytes A =
+      let T = test-bytes f o m s x y u w (A .test) in
+      let G = aggregate-bytes a q (A .arg) (A .column) (A .counts) in
+      record {
+        bytes =
+            together
+            (fields-are 13 (G .code) refl refl refl (comparison-byte c (A .comparison)) (G .column) (is-zero z (A .rest)))
+            (no-list 13 (A .list))
+            (T .bytes);
+        allowed = λ b. rw (G .allowed, is-byte i (A .id), is-byte l (A .left), is-byte r (A .right), T .allowed);
+      }
+
+  sort-bytes : Allowed (bytesOf 14) → Encoded (bytesOf 14)
+  unfolding nodeBytes operatorBy nodeOf testOf fields
+  sort-bytes A =
+      let L = has-list 14 (A .list) in
+      record {
+        bytes =
+            together
+            (fields-are 14 (mark-byte a (A .arg)) (zero-is i (A .id)) (zero-is l (A .left)) (zero-is r (A .right)) (zero-is c (A .comparison)) (zero-is q (A .column)) (is-zero z (A .rest)))
+            (L .0)
+            (sym (no-test f o m s x y u w (and-left _ _ (A .test))));
+        allowed = λ b. list-fields listPart n refl (L .1) (L .2) (list-of b);
+      }
+
+  by-every-kind : (k : ℕ) → Allowed (bytesOf k) → Encoded (bytesOf k)
+  by-every-kind =
+      by-kind (λ k. Allowed (bytesOf k) → Encoded (bytesOf k)) unit-bytes scan-bytes select-bytes project-bytes distinct-bytes cross-bytes semi-bytes anti-bytes some-bytes every-bytes fold-bytes each-bytes pair-bytes group-bytes sort-bytes
+      (λ k h A. absurd (omega (arith, ltb-true k 15 (A .kind))))
+
+pub node-encoded : (part : List ℕ) → length part ≡ 24 → fieldsAllowed part ≡ true → Encoded part
+node-encoded part e =
+    eight (λ s. fieldsAllowed s ≡ true → Encoded s) 16 part e
+    (λ k a i l r c q z s₁ e₁.
+    eight (λ s. fieldsAllowed (k ∷ a ∷ i ∷ l ∷ r ∷ c ∷ q ∷ z ∷ s) ≡ true → Encoded (k ∷ a ∷ i ∷ l ∷ r ∷ c ∷ q ∷ z ∷ s)) 8 s₁ e₁
+    (λ n l₁ l₂ l₃ l₄ l₅ l₆ l₇ s₂ e₂.
+    eight (λ s. fieldsAllowed (k ∷ a ∷ i ∷ l ∷ r ∷ c ∷ q ∷ z ∷ n ∷ l₁ ∷ l₂ ∷ l₃ ∷ l₄ ∷ l₅ ∷ l₆ ∷ l₇ ∷ s) ≡ true → Encoded (k ∷ a ∷ i ∷ l ∷ r ∷ c ∷ q ∷ z ∷ n ∷ l₁ ∷ l₂ ∷ l₃ ∷ l₄ ∷ l₅ ∷ l₆ ∷ l₇ ∷ s)) 0 s₂ e₂
+    (λ f o m s x y u w s₃ e₃.
+    none (λ t. fieldsAllowed (k ∷ a ∷ i ∷ l ∷ r ∷ c ∷ q ∷ z ∷ n ∷ l₁ ∷ l₂ ∷ l₃ ∷ l₄ ∷ l₅ ∷ l₆ ∷ l₇ ∷ f ∷ o ∷ m ∷ s ∷ x ∷ y ∷ u ∷ w ∷ t) ≡ true → Encoded (k ∷ a ∷ i ∷ l ∷ r ∷ c ∷ q ∷ z ∷ n ∷ l₁ ∷ l₂ ∷ l₃ ∷ l₄ ∷ l₅ ∷ l₆ ∷ l₇ ∷ f ∷ o ∷ m ∷ s ∷ x ∷ y ∷ u ∷ w ∷ t)) s₃ e₃
+    (λ h. by-every-kind a i l r c q z n l₁ l₂ l₃ l₄ l₅ l₆ l₇ f o m s x y u w k (allowed-fields _ h)))))
+
+-- A node whose fields are allowed is the encoding of its operator, byte for byte.
+pub node-bytes : (part : List ℕ) → length part ≡ 24 → fieldsAllowed part ≡ true → nodeBytes (operatorOf (nodeOf part)) ≡ part
+node-bytes part e h = node-encoded part e h .bytes
+
+-- Its operator's fields can be written. A list's entries have no limit of their own, so this asks that they are bytes.
+pub fields-of : (part : List ℕ) → length part ≡ 24 → fieldsAllowed part ≡ true → Bytes part → fields (operatorOf (nodeOf part)) ≡ true
+fields-of part e h = node-encoded part e h .allowed

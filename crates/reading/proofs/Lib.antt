@@ -1,0 +1,17 @@
+pub mod Laws
+pub mod Operators
+pub mod Trees
+pub mod FieldBytes
+pub mod Encoding
+pub mod Decoding
+pub mod Places
+pub mod IdLaws
+pub mod Ends
+pub mod Acceptance
+pub mod PlanBytes
+pub mod TreeNumbers
+pub mod ColumnLaws
+pub mod BoundLaws
+pub mod NeedLaws
+pub mod FlagLaws
+pub mod ViewLaws

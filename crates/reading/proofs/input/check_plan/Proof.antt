@@ -1,0 +1,46 @@
+use mathlib.Core.Path.{_≡_, refl, sym, ap, _∙_}
+use Rattle.reading.proofs.Acceptance.{check-plan}
+use borrow.Author.Needs.{needs}
+use Rattle.reading.proofs.input.check_plan.Statement.{statement}
+use Rattle.reading.proofs.input.check_plan.Tie as tie
+use Rattle.reading.proofs.input.check_plan.Reads as reads
+use Rattle.reading.proofs.input.check_plan.Lts as lts
+use Rattle.reading.proofs.input.check_tree.Reads as check-tree-reads
+use Rattle.reading.proofs.plan.read_plan.Reads as read-plan-reads
+
+-- src/input.rt:66:11
+read-plan-requires : tie.Need-read-plan-requires
+read-plan-requires c κs = search needs
+
+-- src/input.rt:67:27
+enum-known-number : tie.Need-enum-known-number
+enum-known-number c = search needs
+
+-- src/input.rt:68:25
+enum-known-nodes : tie.Need-enum-known-nodes
+enum-known-nodes c = search needs
+
+-- src/input.rt:68:35
+check-tree-requires : tie.Need-check-tree-requires
+check-tree-requires c κs = (c .before .before .before .before .before .before .pre, sym (c .before .before .before .read-plan .ensures) ∙ c .before .nodes .given .1)
+
+-- src/input.rt:62:1
+returns : tie.Need-returns
+returns c =
+    let a = c .before .before .before .before .before .before .args in
+    sym (check-plan (a .set .now) (a .plan .now) (a .tables) (c .before .before .before .before .before .before .pre) _ (sym (c .before .before .before .read-plan .ensures) ∙ c .before .number .given .1))
+
+-- src/input.rt:62:1
+returns-2 : tie.Need-returns-2
+returns-2 c = search needs
+
+pub check-plan-spec : {M : Type 1} → statement M
+check-plan-spec =
+    tie.close
+    (tie.spec
+    read-plan-requires
+    enum-known-number
+    enum-known-nodes
+    check-tree-requires
+    returns
+    returns-2)

@@ -1,0 +1,65 @@
+-- The whole of reading: what a set and a plan are turned back for, and what they give where they are not (paper 01, "Turned-back input").
+-- Definitions only.
+use Prim.Native.Nat.{ℕ, zero, suc}
+use mathlib.Core.Bool.{Bool, true, false, not}
+use mathlib.Core.List.{List}
+use Rattle.algebra.specs.Lists.{if_then_else_}
+use Rattle.algebra.specs.Refusals.{refusal, need}
+use Rattle.reading.specs.TableSet.{readSet, amountOf, tablesOf}
+use Rattle.reading.specs.Plan.{readPlan, nodesOf}
+use Rattle.reading.specs.Tree.{planOf, wholeTree}
+use Rattle.reading.specs.declared.set.SetRead.{SetRead}
+use Rattle.reading.specs.declared.set.SetRead.the-variants.{Holds, Refused}
+use Rattle.reading.specs.declared.plan.PlanRead.{PlanRead}
+use Rattle.reading.specs.declared.plan.PlanRead.the-variants.{Nodes, Refused as PlanRefused}
+use Rattle.reading.specs.declared.input.Checked.{Checked}
+use Rattle.reading.specs.declared.input.Checked.the-variants.{Accepted, Refused as InputRefused}
+
+-- ---- The numbers; 0 where nothing is turned back
+
+-- 1 to 5
+abbrev pub setNumber : SetRead → ℕ
+setNumber (Holds n) = 0
+setNumber (Refused number) = number
+
+-- 6 to 9
+abbrev pub planNumber : PlanRead → ℕ
+planNumber (Nodes n) = 0
+planNumber (PlanRefused number) = number
+
+-- the first of two numbers that turns back
+abbrev pub orNext : ℕ → ℕ → ℕ
+orNext zero next = next
+orNext (suc number) next = suc number
+
+-- 10
+abbrev pub treeNumber : List ℕ → ℕ
+treeNumber plan = if wholeTree plan then 0 else 10
+
+-- 6 to 14 of a plan over a set that is not turned back
+unfoldable pub planRefusal : List ℕ → List ℕ → ℕ
+planRefusal set plan = orNext (planNumber (readPlan plan)) (orNext (treeNumber plan) (refusal (tablesOf set) (planOf plan)))
+
+-- 1 to 14: the set before the plan
+unfoldable pub inputRefusal : List ℕ → List ℕ → ℕ
+inputRefusal set plan = orNext (setNumber (readSet set)) (planRefusal set plan)
+
+-- ---- The answer
+
+-- an answer's number
+abbrev pub checkedNumber : Checked → ℕ
+checkedNumber (Accepted tables nodes cells) = 0
+checkedNumber (InputRefused number) = number
+
+-- the scratch that it asks for; 0 where the input is turned back
+abbrev pub checkedNeed : Checked → ℕ
+checkedNeed (Accepted tables nodes cells) = cells
+checkedNeed (InputRefused number) = 0
+
+-- accepted, with the tables, the nodes and the need in cells; or the number
+abbrev pub answer : ℕ → ℕ → ℕ → ℕ → Checked
+answer zero tables nodes cells = Accepted tables nodes cells
+answer (suc number) tables nodes cells = InputRefused (suc number)
+
+unfoldable pub checkOf : List ℕ → List ℕ → Checked
+checkOf set plan = answer (inputRefusal set plan) (amountOf (readSet set)) (nodesOf plan) (need (tablesOf set) (planOf plan))

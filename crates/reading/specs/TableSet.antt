@@ -1,0 +1,106 @@
+-- The set of tables (paper 01, "The set of tables", and the numbers 1 to 5 of "Turned-back input").
+-- A set is a list of bytes: 0 to 8 tables, one after another. A table is looked at as the bytes from its first one on.
+-- Definitions only.
+use Prim.Native.Nat.{ℕ, zero, suc, _+_, _*_, _/_, _%_, _^_}
+use mathlib.Core.Bool.{Bool, true, false, _&&_, _||_, not}
+use mathlib.Core.List.{List, [], _∷_, map}
+use lib.ListN.{length, take, drop}
+use lib.Dec.{leb, ltb, eqb}
+use Rattle.algebra.specs.Lists.{if_then_else_, upward}
+use Rattle.algebra.specs.Cells.{blank, offScale, inRange}
+use Rattle.algebra.specs.Plans.{Row, Tables}
+use Rattle.reading.specs.Bytes.{byteAt, u16At, u32At, startsWith, allBelow}
+use Rattle.reading.specs.declared.set.SetRead.{SetRead}
+use Rattle.reading.specs.declared.set.SetRead.the-variants.{Holds, Refused}
+use Rattle.reading.specs.declared.set.TableRead.{TableRead}
+use Rattle.reading.specs.declared.set.TableRead.the-variants.{Whole, Bad}
+
+-- ---- A table's header: 8 bytes
+
+-- letters TBL, 16-bit version 1
+abbrev pub tableMark : List ℕ
+tableMark = 84 ∷ 66 ∷ 76 ∷ 1 ∷ 0 ∷ []
+
+abbrev pub columnsOf : List ℕ → ℕ
+columnsOf table = byteAt table 5
+
+abbrev pub rowsOf : List ℕ → ℕ
+rowsOf table = u16At table 6
+
+-- 1 to 16 columns, 0 to 1,000 rows
+abbrev pub sizeAllowed : List ℕ → Bool
+sizeAllowed table = leb 1 (columnsOf table) && (leb (columnsOf table) 16 && leb (rowsOf table) 1000)
+
+-- ---- Its cells: 4 bytes each, row by row
+
+abbrev pub cellBytes : List ℕ → ℕ
+cellBytes table = 4 * (columnsOf table * rowsOf table)
+
+unfoldable pub cellsOf : List ℕ → List ℕ
+cellsOf table = take (cellBytes table) (drop 8 table)
+
+-- The word of a cell is its signed 32-bit code plus 2 ^ 31, so that words are ordered as codes are. The code of x ≥ 2 ^ 31 is x - 2 ^ 32.
+abbrev pub wordOf : ℕ → ℕ
+wordOf x = (x + 2 ^ 31) % 2 ^ 32
+
+-- the word of cell i of a table's cells; past the last cell it is blank
+abbrev pub cellAt : List ℕ → ℕ → ℕ
+cellAt cells i = if ltb i (length cells / 4) then wordOf (u32At cells (4 * i)) else blank
+
+-- blank (code -2,147,483,648), off scale (code 2,147,483,647), or a number in the cell range
+abbrev pub cellAllowed : ℕ → Bool
+cellAllowed w = eqb w blank || (eqb w offScale || inRange w)
+
+unfoldable pub cellsAllowed : List ℕ → Bool
+cellsAllowed cells = allBelow (length cells / 4) (λ i. cellAllowed (cellAt cells i))
+
+-- ---- Reading one table, and the set
+
+-- One table: how many bytes it has, or the refusal's number. In the order 1 (header), 2, 3, 1 (cells), 4.
+unfoldable pub readTable : List ℕ → TableRead
+readTable table =
+    if ltb (length table) 8 then Bad 1 else
+    if not (startsWith tableMark table) then Bad 2 else
+    if not (sizeAllowed table) then Bad 3 else
+    if ltb (length table) (8 + cellBytes table) then Bad 1 else
+    if not (cellsAllowed (cellsOf table)) then Bad 4 else
+    Whole (8 + cellBytes table)
+
+abbrev pub afterTable : TableRead → (ℕ → SetRead) → SetRead
+afterTable (Bad number) next = Refused number
+afterTable (Whole bytes) next = next bytes
+
+-- The tables from here on, where `found` were read before and at most `left` may follow. 5 is met first.
+unfoldable pub readFrom : ℕ → ℕ → List ℕ → SetRead
+readFrom zero found s = if eqb (length s) 0 then Holds found else Refused 5
+readFrom (suc left) found s =
+    if eqb (length s) 0 then Holds found else
+    afterTable (readTable s) (λ bytes. readFrom left (found + 1) (drop bytes s))
+
+unfoldable pub readSet : List ℕ → SetRead
+unfolding readFrom
+readSet set = readFrom 8 0 set
+
+-- ---- Finding table t of a set that was read
+
+-- The set from table t on. Past the last table nothing is left.
+unfoldable pub tableFrom : ℕ → List ℕ → List ℕ
+tableFrom zero s = s
+tableFrom (suc t) s = tableFrom t (drop (8 + cellBytes s) s)
+
+-- ---- The tables of a set, as the plans' meaning speaks of them
+
+-- cell c of row r of a table
+abbrev pub tableCell : List ℕ → ℕ → ℕ → ℕ
+tableCell table r c = cellAt (cellsOf table) (columnsOf table * r + c)
+
+unfoldable pub tableRows : List ℕ → List Row
+tableRows table = map (λ r. map (tableCell table r) (upward (columnsOf table) 0)) (upward (rowsOf table) 0)
+
+-- how many tables were read
+abbrev pub amountOf : SetRead → ℕ
+amountOf (Holds n) = n
+amountOf (Refused number) = 0
+
+abbrev pub tablesOf : List ℕ → Tables
+tablesOf set = record { amount = amountOf (readSet set); width = λ t. columnsOf (tableFrom t set); rows = λ t. tableRows (tableFrom t set) }

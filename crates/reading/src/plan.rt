@@ -1,0 +1,291 @@
+// The plan's bytes: its header, its nodes and their fields.
+ghost use mathlib.Core.Path.{_≡_};
+ghost use Prim.Native.Nat.{_+_, _*_, _≤_, _<_};
+ghost use lib.ListN.{length, drop};
+ghost use Rattle.reading.specs.Bytes.{u32At};
+ghost use Rattle.reading.specs.TableSet.{wordOf};
+ghost use Rattle.reading.specs.Plan.{kindTable, limited, listAllowed, listEnds, testAllowed, countAllowed, fieldsAllowed, nodePart, testOf, nodeOf, nodeAt, nodesAllowed, readPlan};
+use crate::bytes::byte_at;
+use crate::bytes::head;
+use crate::bytes::starts_with;
+use crate::bytes::tail;
+use crate::kinds::KIND_TABLE;
+use crate::kinds::TEST_LIMITS;
+use crate::kinds::kind_entry;
+use crate::set::number_word;
+use crate::set::word;
+
+pub const PLAN_MARK: [u8; 5] = [82, 80, 84, 1, 0];
+
+// What reading a plan gives: how many nodes it has, or a refusal's number.
+pub enum PlanRead {
+    Nodes(usize),
+    Refused(u8),
+}
+
+// A node's test, without its not-mark: always; a column with a column; a column with a number, given as a cell's word.
+pub enum Test {
+    Always,
+    Columns {
+        comparison: u8,
+        left: u8,
+        right: u8,
+    },
+    Number {
+        comparison: u8,
+        left: u8,
+        number: u32,
+    },
+}
+
+pub struct Node {
+    pub kind: u8,
+    pub arg: u8,
+    pub id: u8,
+    pub left: u8,
+    pub right: u8,
+    pub comparison: u8,
+    pub column: u8,
+    pub listed: u8,
+    pub list: [u8; 7],
+    pub negated: bool,
+    pub test: Test,
+}
+
+// ---- The fields of a node's 24 bytes
+
+// Whether each of the first n bytes is at most its limit.
+fn bytes_within(n: usize, bytes: &[u8], limits: &[u8]) -> bool
+    ensures { λ r. ⌜ r ≡ limited n (now (bytes .entry)) (now (limits .entry)) ⌝ }
+{
+    let mut j = 0;
+    while j < n {
+        if byte_at(limits, j) < byte_at(bytes, j) {
+            return false;
+        }
+        j += 1;
+    }
+    true
+}
+
+fn kind_allowed(kind: usize, node: &[u8]) -> bool
+    requires { ⌜ kind < 15 ⌝ }
+    ensures { λ r. ⌜ r ≡ limited 7 (drop 1 (now (node .entry))) (drop (10 * kind + 1) kindTable) ⌝ }
+{
+    let table = KIND_TABLE;
+    let row = 10 * kind + 1;
+    bytes_within(7, tail(node, 1), tail(&table, row))
+}
+
+fn count_allowed(node: &[u8]) -> bool
+    ensures { λ r. ⌜ r ≡ countAllowed (now (node .entry)) ⌝ }
+{
+    if byte_at(node, 1) != 0 {
+        return true;
+    }
+    byte_at(node, 6) == 0
+}
+
+// Whether the list's bytes past its length are 0.
+fn list_ends(node: &[u8], listed: usize) -> bool
+    ensures { λ r. ⌜ r ≡ listEnds (now (node .entry)) listed ⌝ }
+{
+    let mut j = listed;
+    while j < 7 {
+        if byte_at(node, 9 + j) != 0 {
+            return false;
+        }
+        j += 1;
+    }
+    true
+}
+
+fn list_allowed(has: u8, node: &[u8]) -> bool
+    ensures { λ r. ⌜ r ≡ listAllowed has (now (node .entry)) ⌝ }
+{
+    let listed = byte_at(node, 8) as usize;
+    if listed < has as usize {
+        return false;
+    }
+    if 7 * (has as usize) < listed {
+        return false;
+    }
+    list_ends(node, listed)
+}
+
+fn test_number(node: &[u8]) -> u32
+    ensures { λ r. ⌜ r ≡ wordOf (u32At (now (node .entry)) 20) ⌝ }
+{
+    word(
+        byte_at(node, 20),
+        byte_at(node, 21),
+        byte_at(node, 22),
+        byte_at(node, 23),
+    )
+}
+
+fn test_allowed(has: u8, node: &[u8]) -> bool
+    ensures { λ r. ⌜ r ≡ testAllowed has (now (node .entry)) ⌝ }
+{
+    let form = byte_at(node, 16) as usize;
+    let limits = TEST_LIMITS;
+    let row = if has == 0 { 0 } else { 8 * (1 + form) };
+    if !bytes_within(8, tail(node, 16), tail(&limits, row)) {
+        return false;
+    }
+    if form != 2 {
+        return true;
+    }
+    number_word(test_number(node))
+}
+
+// Whether every field of a node is one that its kind lists, in its range.
+fn fields_allowed(node: &[u8]) -> bool
+    ensures { λ r. ⌜ r ≡ fieldsAllowed (now (node .entry)) ⌝ }
+{
+    let kind = byte_at(node, 0) as usize;
+    if 15 <= kind {
+        return false;
+    }
+    if !kind_allowed(kind, node) {
+        return false;
+    }
+    if !count_allowed(node) {
+        return false;
+    }
+    if !list_allowed(kind_entry(kind, 8), node) {
+        return false;
+    }
+    test_allowed(kind_entry(kind, 9), node)
+}
+
+// ---- The nodes
+
+// The 24 bytes of node i, as a part of the plan.
+fn node_part(plan: &[u8], i: usize) -> &[u8]
+    requires { ⌜ i < 64 ⌝ }
+    ensures { λ r. ⌜ now r ≡ nodePart (now (plan .entry)) i ⌝ }
+{
+    let at = 6 + 24 * i;
+    head(tail(plan, at), 24)
+}
+
+fn nodes_allowed(n: usize, plan: &[u8]) -> bool
+    requires { ⌜ n ≤ 64 ⌝ }
+    ensures { λ r. ⌜ r ≡ nodesAllowed n (now (plan .entry)) ⌝ }
+{
+    let mut i = 0;
+    while i < n {
+        if !fields_allowed(node_part(plan, i)) {
+            return false;
+        }
+        i += 1;
+    }
+    true
+}
+
+// Reads the plan's bytes: its header, and each node's fields.
+pub fn read_plan(plan: &[u8]) -> PlanRead
+    ensures { λ r. ⌜ r ≡ readPlan (now (plan .entry)) ⌝ }
+{
+    if plan.len() < 6 {
+        return PlanRead::Refused(6);
+    }
+    let mark = PLAN_MARK;
+    if !starts_with(plan, &mark) {
+        return PlanRead::Refused(7);
+    }
+    let n = byte_at(plan, 5) as usize;
+    if n < 1 {
+        return PlanRead::Refused(8);
+    }
+    if 64 < n {
+        return PlanRead::Refused(8);
+    }
+    if plan.len() != 6 + 24 * n {
+        return PlanRead::Refused(6);
+    }
+    if !nodes_allowed(n, plan) {
+        return PlanRead::Refused(9);
+    }
+    PlanRead::Nodes(n)
+}
+
+// ---- A node's value
+
+fn test_of(node: &[u8]) -> Test
+    requires { ⌜ length (now node) ≡ 24 ⌝ }
+    ensures { λ r. ⌜ r ≡ testOf (now (node .entry)) ⌝ }
+{
+    let form = node[16];
+    if form == 0 {
+        return Test::Always;
+    }
+    if form == 1 {
+        return Test::Columns {
+            comparison: node[17],
+            left: node[19],
+            right: node[20],
+        };
+    }
+    Test::Number {
+        comparison: node[17],
+        left: node[19],
+        number: word(node[20], node[21], node[22], node[23]),
+    }
+}
+
+fn node_of(node: &[u8]) -> Node
+    requires { ⌜ length (now node) ≡ 24 ⌝ }
+    ensures { λ r. ⌜ r ≡ nodeOf (now (node .entry)) ⌝ }
+{
+    let test = test_of(node);
+    let list = [
+        node[9],
+        node[10],
+        node[11],
+        node[12],
+        node[13],
+        node[14],
+        node[15],
+    ];
+    Node {
+        kind: node[0],
+        arg: node[1],
+        id: node[2],
+        left: node[3],
+        right: node[4],
+        comparison: node[5],
+        column: node[6],
+        listed: node[8],
+        list,
+        negated: node[18] == 1,
+        test,
+    }
+}
+
+// Node i of the plan; past the last node it is a Unit.
+pub fn node_at(plan: &[u8], i: usize) -> Node
+    ensures { λ r. ⌜ r ≡ nodeAt (now (plan .entry)) i ⌝ }
+{
+    if i < plan.len() / 24 {
+        let at = 6 + 24 * i;
+        let end = at + 24;
+        if end <= plan.len() {
+            return node_of(&plan[at..end]);
+        }
+    }
+    Node {
+        kind: 0,
+        arg: 0,
+        id: 0,
+        left: 0,
+        right: 0,
+        comparison: 0,
+        column: 0,
+        listed: 0,
+        list: [0; 7],
+        negated: false,
+        test: Test::Always,
+    }
+}

@@ -1,0 +1,197 @@
+// The set of tables: reading it, and finding a table's cells in it.
+ghost use mathlib.Core.Path.{_≡_};
+ghost use Prim.Native.Nat.{_+_, _*_, _≤_};
+ghost use lib.ListN.{length, drop};
+ghost use Rattle.algebra.specs.Cells.{inRange};
+ghost use Rattle.reading.specs.TableSet.{columnsOf, rowsOf, cellBytes, cellsOf, wordOf, cellAt, cellAllowed, cellsAllowed, sizeAllowed, readTable, readSet, tableFrom};
+use crate::bytes::byte_at;
+use crate::bytes::head;
+use crate::bytes::starts_with;
+use crate::bytes::tail;
+
+// What reading a set gives: how many tables it has, or a refusal's number.
+pub enum SetRead {
+    Holds(usize),
+    Refused(u8),
+}
+
+// What reading one table gives: how many bytes it has, or a refusal's number.
+pub enum TableRead {
+    Whole(usize),
+    Bad(u8),
+}
+
+const TABLE_MARK: [u8; 5] = [84, 66, 76, 1, 0];
+
+// ---- Cells
+
+// The word of a cell's four bytes: its signed code plus 2^31.
+pub fn word(b0: u8, b1: u8, b2: u8, b3: u8) -> u32
+    ensures { λ r. ⌜ r ≡ wordOf (b0 + 256 * b1 + 65536 * b2 + 16777216 * b3) ⌝ }
+{
+    let x = b0 as u64 + 256 * (b1 as u64) + 65536 * (b2 as u64) + 16777216 * (b3 as u64);
+    ((x + 2147483648) % 4294967296) as u32
+}
+
+// The word of cell i of a table's cells; past the last cell it is blank, 0.
+pub fn cell(cells: &[u8], i: usize) -> u32
+    ensures { λ r. ⌜ r ≡ cellAt (now (cells .entry)) i ⌝ }
+{
+    if i < cells.len() / 4 {
+        let at = 4 * i;
+        word(cells[at], cells[at + 1], cells[at + 2], cells[at + 3])
+    } else {
+        0
+    }
+}
+
+// Whether a word is that of a number in the cell range.
+pub fn number_word(w: u32) -> bool
+    ensures { λ r. ⌜ r ≡ inRange w ⌝ }
+{
+    if w < 147483648 {
+        return false;
+    }
+    w <= 4147483648
+}
+
+// Blank, off scale, or a number in the cell range.
+fn cell_allowed(w: u32) -> bool
+    ensures { λ r. ⌜ r ≡ cellAllowed w ⌝ }
+{
+    if w == 0 {
+        return true;
+    }
+    if w == 4294967295 {
+        return true;
+    }
+    number_word(w)
+}
+
+// Whether each of a table's cells has an allowed code.
+fn cells_allowed(cells: &[u8]) -> bool
+    ensures { λ r. ⌜ r ≡ cellsAllowed (now (cells .entry)) ⌝ }
+{
+    let n = cells.len() / 4;
+    let mut i = 0;
+    while i < n {
+        if !cell_allowed(cell(cells, i)) {
+            return false;
+        }
+        i += 1;
+    }
+    true
+}
+
+// ---- A table, as the bytes from its first one on
+
+pub fn columns_of(table: &[u8]) -> usize
+    ensures { λ r. ⌜ r ≡ columnsOf (now (table .entry)) ⌝ }
+    ensures { λ r. ⌜ r ≤ 255 ⌝ }
+{
+    byte_at(table, 5) as usize
+}
+
+pub fn rows_of(table: &[u8]) -> usize
+    ensures { λ r. ⌜ r ≡ rowsOf (now (table .entry)) ⌝ }
+    ensures { λ r. ⌜ r ≤ 65535 ⌝ }
+{
+    byte_at(table, 6) as usize + 256 * (byte_at(table, 7) as usize)
+}
+
+fn cell_bytes(table: &[u8]) -> usize
+    ensures { λ r. ⌜ r ≡ cellBytes (now (table .entry)) ⌝ }
+    ensures { λ r. ⌜ r ≤ 66845700 ⌝ }
+{
+    4 * (columns_of(table) * rows_of(table))
+}
+
+fn size_allowed(table: &[u8]) -> bool
+    ensures { λ r. ⌜ r ≡ sizeAllowed (now (table .entry)) ⌝ }
+{
+    let columns = columns_of(table);
+    if columns < 1 {
+        return false;
+    }
+    if 16 < columns {
+        return false;
+    }
+    rows_of(table) <= 1000
+}
+
+// Reads the table that starts at a place of the set.
+fn read_table(set: &[u8], at: usize) -> TableRead
+    requires { ⌜ at ≤ length (now set) ⌝ }
+    ensures { λ r. ⌜ r ≡ readTable (drop at (now (set .entry))) ⌝ }
+{
+    let table = &set[at..];
+    if table.len() < 8 {
+        return TableRead::Bad(1);
+    }
+    let mark = TABLE_MARK;
+    if !starts_with(table, &mark) {
+        return TableRead::Bad(2);
+    }
+    if !size_allowed(table) {
+        return TableRead::Bad(3);
+    }
+    let size = 8 + cell_bytes(table);
+    if table.len() < size {
+        return TableRead::Bad(1);
+    }
+    let a = at + 8;
+    let b = at + size;
+    if !cells_allowed(&set[a..b]) {
+        return TableRead::Bad(4);
+    }
+    TableRead::Whole(size)
+}
+
+// ---- The set
+
+// Reads the whole set. Each table starts where the last one ended.
+pub fn read_set(set: &[u8]) -> SetRead
+    ensures { λ r. ⌜ r ≡ readSet (now (set .entry)) ⌝ }
+{
+    let mut at = 0;
+    let mut found = 0;
+    while at < set.len() {
+        if found == 8 {
+            return SetRead::Refused(5);
+        }
+        match read_table(set, at) {
+            TableRead::Bad(number) => {
+                return SetRead::Refused(number);
+            }
+            TableRead::Whole(size) => {
+                at += size;
+            }
+        }
+        found += 1;
+    }
+    SetRead::Holds(found)
+}
+
+// The part of the set from table t on; nothing past the last table.
+pub fn table_from(set: &[u8], t: usize) -> &[u8]
+    ensures { λ r. ⌜ now r ≡ tableFrom t (now (set .entry)) ⌝ }
+{
+    let mut rest = set;
+    let mut i = 0;
+    while i < t {
+        let size = 8 + cell_bytes(rest);
+        let next = tail(rest, size);
+        rest = next;
+        i += 1;
+    }
+    rest
+}
+
+// The cells of table t, as a part of the set.
+pub fn table_cells(set: &[u8], t: usize) -> &[u8]
+    ensures { λ r. ⌜ now r ≡ cellsOf (tableFrom t (now (set .entry))) ⌝ }
+{
+    let table = table_from(set, t);
+    let size = cell_bytes(table);
+    head(tail(table, 8), size)
+}
