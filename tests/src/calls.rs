@@ -1,0 +1,184 @@
+//! The calls of the library, and what they answer. A refusal is its number, in `Err`.
+//!
+//! Rooms are counted as the library counts them: output cells, plan bytes, step bytes, scratch cells.
+
+use crate::cells::{BLANK, OFF_SCALE};
+use crate::check::{columns, need, read_plan};
+use crate::evaluate::rows;
+use crate::nodes::write_plan;
+use crate::plan::Plan;
+use crate::rules::{first_fit, stay_positions, try_step};
+use crate::tables::{read_set, Table};
+
+/// Enough room for any call.
+pub const ROOMY: usize = usize::MAX;
+
+/// A report: its counts, and its codes row by row.
+#[derive(Clone, Debug, PartialEq, Eq)]
+pub struct Report {
+    pub rows: usize,
+    pub columns: usize,
+    pub codes: Vec<i32>,
+}
+
+/// A plan left by unnesting, with its steps (rule, place before the step).
+#[derive(Clone, Debug, PartialEq, Eq)]
+pub struct Unnested {
+    pub steps: Vec<(u8, u8)>,
+    pub plan: Vec<u8>,
+}
+
+/// Reads a set and a plan: refusals 1 to 14, or the tables and the tree.
+pub fn read(set: &[u8], plan: &[u8]) -> Result<(Vec<Table>, Plan), u8> {
+    let tables = read_set(set)?;
+    let tree = read_plan(plan, &tables)?;
+    Ok((tables, tree))
+}
+
+/// The report of a tree over its tables, without any limit of room.
+pub fn report_of(tree: &Plan, tables: &[Table]) -> Report {
+    let rows = rows(tree, tables, None);
+    Report { rows: rows.len(), columns: columns(tree, tables).len(), codes: rows.concat() }
+}
+
+/// The reporting call: refusals 1 to 14, then 16, then 15, or the report.
+pub fn report(set: &[u8], plan: &[u8], out_cells: usize, scratch_cells: usize) -> Result<Report, u8> {
+    let (tables, tree) = read(set, plan)?;
+    if (scratch_cells as u64) < need(&tree, &tables) {
+        return Err(16);
+    }
+    let report = report_of(&tree, &tables);
+    if out_cells < report.codes.len() {
+        return Err(15);
+    }
+    Ok(report)
+}
+
+/// The ids, in order, of a report's columns.
+pub fn report_columns(set: &[u8], plan: &[u8]) -> Result<Vec<u8>, u8> {
+    let (tables, tree) = read(set, plan)?;
+    Ok(columns(&tree, &tables))
+}
+
+/// The need in cells of an accepted plan.
+pub fn need_of(set: &[u8], plan: &[u8]) -> Result<u64, u8> {
+    let (tables, tree) = read(set, plan)?;
+    Ok(need(&tree, &tables))
+}
+
+/// The steps from a tree to one where no rule fits: steps, every plan passed through (the given
+/// and the last included).
+pub fn unnest_tree(tree: &Plan, tables: &[Table]) -> (Vec<(u8, u8)>, Vec<Plan>) {
+    let mut steps = Vec::new();
+    let mut passed = vec![tree.clone()];
+    while let Some((place, rule, after)) = first_fit(&passed[passed.len() - 1], tables) {
+        steps.push((rule, place as u8));
+        passed.push(after);
+    }
+    (steps, passed)
+}
+
+/// The largest need of the plans that unnesting passes through.
+pub fn unnest_need(set: &[u8], plan: &[u8]) -> Result<u64, u8> {
+    let (tables, tree) = read(set, plan)?;
+    let (_, passed) = unnest_tree(&tree, &tables);
+    Ok(passed.iter().map(|plan| need(plan, &tables)).max().expect("the given plan"))
+}
+
+/// The unnesting call: refusals 1 to 14, then 16 (the largest need of any plan passed through),
+/// then 15 (the last plan or its steps do not fit), or the plan left and its steps.
+pub fn unnest(
+    set: &[u8],
+    plan: &[u8],
+    out_plan_bytes: usize,
+    out_step_bytes: usize,
+    scratch_cells: usize,
+) -> Result<Unnested, u8> {
+    let (tables, tree) = read(set, plan)?;
+    let (steps, passed) = unnest_tree(&tree, &tables);
+    if passed.iter().any(|plan| (scratch_cells as u64) < need(plan, &tables)) {
+        return Err(16);
+    }
+    let plan = write_plan(&passed[passed.len() - 1]);
+    if out_plan_bytes < plan.len() || out_step_bytes < 2 * steps.len() {
+        return Err(15);
+    }
+    Ok(Unnested { steps, plan })
+}
+
+/// The stay note call: refusals 1 to 14 and 16, or all positions that a note for this place may
+/// give (`None`: no note is due).
+pub fn stay_note(set: &[u8], plan: &[u8], place: usize, scratch_cells: usize) -> Result<Option<Vec<usize>>, u8> {
+    let (tables, tree) = read(set, plan)?;
+    if (scratch_cells as u64) < need(&tree, &tables) {
+        return Err(16);
+    }
+    Ok(stay_positions(&tree, place, &tables))
+}
+
+/// The plan left after a list of steps (rule, place) is tried, each on the plan the one before left.
+pub fn try_steps(set: &[u8], plan: &[u8], steps: &[(u8, u8)]) -> Result<Vec<u8>, u8> {
+    let (tables, mut tree) = read(set, plan)?;
+    for &(rule, place) in steps {
+        tree = try_step(&tree, rule, usize::from(place), &tables);
+    }
+    Ok(write_plan(&tree))
+}
+
+/// What C gets from the reporting call.
+pub fn report_word(answer: &Result<Report, u8>) -> u64 {
+    match answer {
+        Ok(report) => ((report.columns as u64) << 8) + ((report.rows as u64) << 16),
+        Err(number) => u64::from(*number),
+    }
+}
+
+/// What C gets from the unnesting call.
+pub fn unnest_word(answer: &Result<Unnested, u8>) -> u64 {
+    match answer {
+        Ok(unnested) => ((unnested.steps.len() as u64) << 8) + ((unnested.plan.len() as u64) << 24),
+        Err(number) => u64::from(*number),
+    }
+}
+
+/// Whether C may get this from the stay note call: a note may give any of the valid positions.
+pub fn stay_note_word_is_right(answer: &Result<Option<Vec<usize>>, u8>, word: u64) -> bool {
+    match answer {
+        Ok(Some(positions)) => {
+            word & 0xffff == 1 << 8 && positions.iter().any(|&position| position as u64 == word >> 16)
+        }
+        Ok(None) => word == 0,
+        Err(number) => word == u64::from(*number),
+    }
+}
+
+/// The text of the listing program, given the scratch cells it has. Its other room is taken to suffice.
+pub fn listing(set: &[u8], plan: &[u8], scratch_cells: usize) -> String {
+    let unnested = match unnest(set, plan, ROOMY, ROOMY, scratch_cells) {
+        Ok(unnested) => unnested,
+        Err(number) => return format!("refused {number}\n"),
+    };
+    let report = match report(set, &unnested.plan, ROOMY, scratch_cells) {
+        Ok(report) => report,
+        Err(number) => return format!("refused {number}\n"),
+    };
+    let mut text = format!("steps {}\n", unnested.steps.len());
+    for (rule, place) in &unnested.steps {
+        text += &format!("U{rule} {place}\n");
+    }
+    text += &format!("rows {} columns {}\n", report.rows, report.columns);
+    for row in 0..report.rows {
+        let cells = &report.codes[row * report.columns..(row + 1) * report.columns];
+        text += &(cells.iter().map(|&code| cell_text(code)).collect::<Vec<_>>().join(" ") + "\n");
+    }
+    text
+}
+
+/// A cell as the listing prints it.
+fn cell_text(code: i32) -> String {
+    match code {
+        BLANK => "-".to_string(),
+        OFF_SCALE => "+".to_string(),
+        number => number.to_string(),
+    }
+}

@@ -1,0 +1,581 @@
+//! Random tables and random accepted plans, biased so that each of the eight rules fits often.
+
+use crate::build::one_column;
+use crate::cells::{BLANK, LARGEST, OFF_SCALE};
+use crate::check::{bound, check_tree};
+use crate::nodes::write_plan;
+use crate::plan::{Aggregate, Comparison, Form, Keys, Plan, Test, ALWAYS, COMPARISONS};
+use crate::random::Random;
+use crate::rules::{fit, try_step};
+use crate::tables::{write_set, Table};
+
+/// Tables and a plan over them.
+#[derive(Clone, Debug)]
+pub struct Input {
+    pub tables: Vec<Table>,
+    pub plan: Plan,
+}
+
+impl Input {
+    /// The bytes of the set.
+    pub fn set_bytes(&self) -> Vec<u8> {
+        write_set(&self.tables)
+    }
+
+    /// The bytes of the plan.
+    pub fn plan_bytes(&self) -> Vec<u8> {
+        write_plan(&self.plan)
+    }
+}
+
+/// A random accepted input. Most are small; a few are at a limit of ids, nodes or bounds.
+pub fn accepted(random: &mut Random) -> Input {
+    loop {
+        let input = match random.below(100) {
+            0 => all_ids_taken(random),
+            1 => bound_grows(random),
+            _ => drawn(random),
+        };
+        let small = input.plan.size() <= 64 && cost(&input.plan, &input.tables) < 20_000;
+        if small && check_tree(&input.plan, &input.tables).is_ok() {
+            return input;
+        }
+    }
+}
+
+/// A random input drawn top down. It may be refused for its width, bounds or node count.
+fn drawn(random: &mut Random) -> Input {
+    let (tables, keyed) = related_tables(random);
+    let depth = random.between(1, 5);
+    let id_style = random.below(4);
+    let mut maker = Maker { random, tables: &tables, keyed: &keyed, used: [false; 256], id_style };
+    let (mut plan, _) = maker.plan(depth, &[]);
+    // Now and then so many nodes that a rule which adds one cannot fit.
+    if random.chance(3) {
+        let wanted = random.between(62, 64);
+        while plan.size() < wanted {
+            plan = Plan::Select { test: ALWAYS, child: Box::new(plan) };
+        }
+    }
+    Input { tables, plan }
+}
+
+/// A rough count of the rows looked at, so that no drawn plan takes long.
+fn cost(plan: &Plan, tables: &[Table]) -> u64 {
+    let children = plan.children();
+    let costs: Vec<u64> = children.iter().map(|child| cost(child, tables)).collect();
+    let own = bound(plan, tables).saturating_add(1);
+    match plan.kind() {
+        8..=11 => costs[0].saturating_add(
+            bound(children[0], tables).saturating_mul(costs[1].saturating_add(bound(children[1], tables))),
+        ),
+        5..=7 | 12 => costs[0]
+            .saturating_add(costs[1])
+            .saturating_add(bound(children[0], tables).saturating_mul(bound(children[1], tables))),
+        13 => costs[0].saturating_add(own.saturating_mul(own)),
+        _ => costs.iter().sum::<u64>().saturating_add(own),
+    }
+    .saturating_add(own)
+}
+
+/// A table's column whose first occurrences are the shared key sequence.
+type KeyColumn = (usize, usize);
+
+/// Random small tables. Many columns run through one shared sequence of keys, with repeats, so
+/// that first occurrences are often equal in sequence; these columns are told too.
+pub fn related_tables(random: &mut Random) -> (Vec<Table>, Vec<KeyColumn>) {
+    let keys = key_sequence(random);
+    let count = match random.below(20) {
+        0 => 0,
+        1 => 8,
+        _ => random.between(1, 4),
+    };
+    let mut tables = Vec::new();
+    let mut keyed = Vec::new();
+    for number in 0..count {
+        let width = if random.chance(4) { random.between(5, 16) } else { random.between(1, 4) };
+        let height = match random.below(10) {
+            0 => 0,
+            1 => random.between(0, 12),
+            _ => random.between(keys.len(), keys.len() + 3),
+        };
+        let mut rows = vec![vec![0; width]; height];
+        for column in 0..width {
+            let in_sequence = random.chance(65) && height >= keys.len() && (height == 0 || !keys.is_empty());
+            let cells = if in_sequence {
+                keyed.push((number, column));
+                run_through(random, &keys, height)
+            } else {
+                (0..height).map(|_| code(random)).collect()
+            };
+            for (row, cell) in rows.iter_mut().zip(cells) {
+                row[column] = cell;
+            }
+        }
+        tables.push(Table { columns: width, rows });
+    }
+    (tables, keyed)
+}
+
+/// A few different codes, most of them small numbers.
+fn key_sequence(random: &mut Random) -> Vec<i32> {
+    let mut keys = Vec::new();
+    for _ in 0..random.between(0, 5) {
+        let key = code(random);
+        if !keys.contains(&key) {
+            keys.push(key);
+        }
+    }
+    keys
+}
+
+/// A column of a given height whose first occurrences are the keys.
+fn run_through(random: &mut Random, keys: &[i32], height: usize) -> Vec<i32> {
+    let mut seen = 0;
+    let mut cells = Vec::new();
+    while cells.len() < height {
+        let left = height - cells.len();
+        if seen < keys.len() && (seen == 0 || left <= keys.len() - seen || random.chance(50)) {
+            seen += 1;
+            cells.push(keys[seen - 1]);
+        } else {
+            cells.push(keys[random.below(seen)]);
+        }
+    }
+    cells
+}
+
+/// A code of a cell: mostly small numbers, some blank, off scale or at the ends of the range.
+pub fn code(random: &mut Random) -> i32 {
+    match random.below(20) {
+        0 | 1 => BLANK,
+        2 => OFF_SCALE,
+        3 => random.pick(&[LARGEST, LARGEST - 1, -LARGEST, 1 - LARGEST]),
+        4 => random.pick(&[30, 31, 36, -30]),
+        _ => random.below(7) as i32 - 2,
+    }
+}
+
+/// A number for a test.
+fn number(random: &mut Random) -> i32 {
+    match random.below(12) {
+        0 => random.pick(&[LARGEST, -LARGEST, LARGEST - 1]),
+        1 => 30,
+        _ => random.below(7) as i32 - 2,
+    }
+}
+
+/// Draws plans whose names are all in view.
+struct Maker<'a> {
+    random: &'a mut Random,
+    tables: &'a [Table],
+    keyed: &'a [KeyColumn],
+    used: [bool; 256],
+    id_style: usize,
+}
+
+/// A plan with the columns it gives.
+type Drawn = (Plan, Vec<u8>);
+
+impl Maker<'_> {
+    /// A plan at most so deep, nested in rows with the columns `outer`.
+    fn plan(&mut self, depth: usize, outer: &[u8]) -> Drawn {
+        if depth == 0 {
+            return self.leaf();
+        }
+        match self.random.below(100) {
+            0..=7 => self.leaf(),
+            8..=27 => self.over_one(depth, outer),
+            28..=33 => self.cross(depth, outer),
+            34..=55 => self.matching(depth, outer),
+            56..=72 => self.quantified(depth, outer),
+            73..=81 => self.folded(depth, outer),
+            82..=89 => self.each(depth, outer),
+            _ => self.paired(depth, outer),
+        }
+    }
+
+    /// So many ids in a row that no plan part has yet introduced; none when no run is left.
+    fn fresh(&mut self, width: usize) -> Option<u8> {
+        let free = |start: usize| (start..start + width).all(|id| !self.used[id]);
+        let starts: Vec<usize> = (0..=256 - width).filter(|&start| free(start)).collect();
+        if starts.is_empty() {
+            return None;
+        }
+        let start = match self.id_style {
+            0 => starts[0],
+            1 => starts[starts.len() - 1],
+            _ => self.random.pick(&starts),
+        };
+        for id in start..start + width {
+            self.used[id] = true;
+        }
+        Some(start as u8)
+    }
+
+    /// Scan mostly, else Unit.
+    fn leaf(&mut self) -> Drawn {
+        if self.tables.is_empty() || self.random.chance(4) {
+            return (Plan::Unit, vec![]);
+        }
+        let table = self.random.below(self.tables.len());
+        self.scan(table)
+    }
+
+    /// Scan of one table under fresh ids.
+    fn scan(&mut self, table: usize) -> Drawn {
+        let width = self.tables[table].columns;
+        match self.fresh(width) {
+            Some(first) => {
+                let ids = (0..width as u8).map(|column| first + column).collect();
+                (Plan::Scan { table: table as u8, first }, ids)
+            }
+            None => (Plan::Unit, vec![]),
+        }
+    }
+
+    /// A test over columns in view.
+    fn test(&mut self, view: &[u8]) -> Test {
+        let comparison = self.comparison();
+        let form = match self.random.below(10) {
+            _ if view.is_empty() => Form::Always,
+            0..=1 => Form::Always,
+            2..=5 => Form::Columns(comparison, self.random.pick(view), self.random.pick(view)),
+            _ => {
+                let number = number(self.random);
+                Form::Number(comparison, self.random.pick(view), number)
+            }
+        };
+        Test { form, not: self.random.chance(25) }
+    }
+
+    fn comparison(&mut self) -> Comparison {
+        self.random.pick(&COMPARISONS)
+    }
+
+    /// A list of one to four different ids out of some.
+    fn list(&mut self, ids: &[u8]) -> Vec<u8> {
+        let mut list = Vec::new();
+        let longest = if self.random.chance(5) { 7 } else { 4 };
+        for _ in 0..self.random.between(1, longest) {
+            let id = self.random.pick(ids);
+            if !list.contains(&id) {
+                list.push(id);
+            }
+        }
+        list
+    }
+
+    /// An aggregate over some columns.
+    fn aggregate(&mut self, ids: &[u8]) -> Aggregate {
+        if ids.is_empty() {
+            return Aggregate::Count;
+        }
+        let id = self.random.pick(ids);
+        match self.random.below(4) {
+            0 => Aggregate::Count,
+            1 => Aggregate::Sum(id),
+            2 => Aggregate::Least(id),
+            _ => Aggregate::Greatest(id),
+        }
+    }
+
+    /// Select, Project, Distinct, Group or Sort.
+    fn over_one(&mut self, depth: usize, outer: &[u8]) -> Drawn {
+        let (child, ids) = self.plan(depth - 1, outer);
+        let view = [&ids, outer].concat();
+        let child = Box::new(child);
+        let kind = if ids.is_empty() { 0 } else { self.random.below(6) };
+        match kind {
+            0 | 1 => (Plan::Select { test: self.test(&view), child }, ids),
+            2 => {
+                let list = self.list(&ids);
+                (Plan::Project { list: list.clone(), child }, list)
+            }
+            3 => {
+                let list = self.list(&ids);
+                (Plan::Distinct { list: list.clone(), child }, list)
+            }
+            4 => (Plan::Sort { down: self.random.chance(50), list: self.list(&ids), child }, ids),
+            _ => {
+                let (Some(value), Some(new)) = (self.fresh(1), self.fresh(1)) else {
+                    return (*child, ids);
+                };
+                let keys = Keys { left: value, comparison: self.comparison(), right: self.random.pick(&ids) };
+                let aggregate = self.aggregate(&ids);
+                let test = self.test(&view);
+                (Plan::Group { aggregate, new, keys, test, child }, vec![value, new])
+            }
+        }
+    }
+
+    fn cross(&mut self, depth: usize, outer: &[u8]) -> Drawn {
+        let (left, left_ids) = self.plan(depth - 1, outer);
+        let (right, right_ids) = self.plan(depth - 1, outer);
+        (Plan::Cross { left: Box::new(left), right: Box::new(right) }, [left_ids, right_ids].concat())
+    }
+
+    /// A closed plan with a column whose first occurrences are often the shared keys.
+    fn keyed_source(&mut self, depth: usize) -> Option<(Plan, Vec<u8>, u8)> {
+        if self.keyed.is_empty() {
+            return None;
+        }
+        let (table, column) = self.random.pick(self.keyed);
+        let (scan, ids) = self.scan(table);
+        let key = *ids.get(column)?;
+        if depth == 0 {
+            return Some((scan, ids, key));
+        }
+        let left = Box::new(scan);
+        let (plan, ids) = match self.random.below(12) {
+            0 => {
+                let (right, more) = self.plan(depth - 1, &[]);
+                (Plan::Cross { left, right: Box::new(right) }, [ids, more].concat())
+            }
+            1 => {
+                let (inner, more) = self.plan(depth - 1, &ids);
+                (Plan::Each { left, inner: Box::new(inner) }, [ids, more].concat())
+            }
+            2 => {
+                let new = self.fresh(1)?;
+                let (inner, more) = self.keyed_inner(depth - 1, &ids, &[]);
+                let test = self.test(&[ids.clone(), more.clone()].concat());
+                let aggregate = self.aggregate(&more);
+                (Plan::Fold { aggregate, new, test, left, inner: Box::new(inner) }, [ids, vec![new]].concat())
+            }
+            3 => (Plan::Select { test: self.test(&ids), child: left }, ids),
+            4 => (Plan::Project { list: vec![key], child: left }, vec![key]),
+            5 => {
+                let (inner, more) = self.keyed_inner(depth - 1, &ids, &[]);
+                let test = self.test(&[ids.clone(), more].concat());
+                (Plan::Every { test, left, inner: Box::new(inner) }, ids)
+            }
+            6 => (Plan::Sort { down: self.random.chance(30), list: vec![key], child: left }, ids),
+            _ => (*left, ids),
+        };
+        Some((plan, ids, key))
+    }
+
+    /// A left side for Semi, Anti and Pair: often a Distinct of one key over a closed plan.
+    fn left_side(&mut self, depth: usize, outer: &[u8]) -> (Plan, Vec<u8>, Option<u8>) {
+        if self.random.chance(70) {
+            let below = self.random.below(depth + 1);
+            if let Some((child, ids, key)) = self.keyed_source(below) {
+                let list = if self.random.chance(92) { vec![key] } else { self.list(&ids) };
+                return (Plan::Distinct { list: list.clone(), child: Box::new(child) }, list, Some(key));
+            }
+        }
+        let (plan, ids) = self.plan(depth, outer);
+        (plan, ids, None)
+    }
+
+    /// A right side: often a closed plan with a key column, sometimes under a Select.
+    fn right_side(&mut self, depth: usize, outer: &[u8]) -> (Plan, Vec<u8>, Option<u8>) {
+        let below = self.random.below(depth + 1);
+        let keyed = if self.random.chance(75) { self.keyed_source(below) } else { None };
+        let (plan, ids, key) = match keyed {
+            Some((plan, ids, key)) => (plan, ids, Some(key)),
+            None => {
+                let (plan, ids) = self.plan(depth, outer);
+                (plan, ids, None)
+            }
+        };
+        if self.random.chance(30) {
+            let view = if self.random.chance(85) { ids.clone() } else { [&ids, outer].concat() };
+            return (Plan::Select { test: self.test(&view), child: Box::new(plan) }, ids, key);
+        }
+        (plan, ids, key)
+    }
+
+    /// One of the columns, mostly the key.
+    fn key_of(&mut self, ids: &[u8], key: Option<u8>) -> u8 {
+        match key {
+            Some(key) if ids.contains(&key) && self.random.chance(95) => key,
+            _ => self.random.pick(ids),
+        }
+    }
+
+    /// Semi or Anti: shapes for U3, U4 and U7.
+    fn matching(&mut self, depth: usize, outer: &[u8]) -> Drawn {
+        let (left, left_ids, left_key) = self.left_side(depth - 1, outer);
+        let (right, right_ids, right_key) = self.right_side(depth - 1, outer);
+        if left_ids.is_empty() || right_ids.is_empty() {
+            return (left, left_ids);
+        }
+        let test = match self.random.below(10) {
+            0..=4 => ALWAYS,
+            5..=7 => self.test(&right_ids),
+            _ => self.test(&[&left_ids, &right_ids, outer].concat()),
+        };
+        let left_key = self.key_of(&left_ids, left_key);
+        let right_key = self.key_of(&right_ids, right_key);
+        let (left, right) = (Box::new(left), Box::new(right));
+        if self.random.chance(50) {
+            (Plan::Semi { left_key, right_key, test, left, right }, left_ids)
+        } else {
+            (Plan::Anti { left_key, right_key, test, left, right }, left_ids)
+        }
+    }
+
+    /// An inner plan for rows with the columns `left`: often a Select that compares one of them
+    /// with a column of its child, as U1, U2 and U5 need it.
+    fn keyed_inner(&mut self, depth: usize, left: &[u8], outer: &[u8]) -> Drawn {
+        let nested = [left, outer].concat();
+        if left.is_empty() || self.random.chance(15) {
+            return self.plan(depth, &nested);
+        }
+        let view = if self.random.chance(85) { outer } else { &nested };
+        let (child, ids, key) = self.right_side(depth, view);
+        if ids.is_empty() {
+            return (child, ids);
+        }
+        let own = self.random.pick(left);
+        let other = self.key_of(&ids, key);
+        let comparison = if self.random.chance(60) { Comparison::Equal } else { self.comparison() };
+        let form = if self.random.chance(50) {
+            Form::Columns(comparison, own, other)
+        } else {
+            Form::Columns(comparison, other, own)
+        };
+        let test = Test { form, not: self.random.chance(5) };
+        (Plan::Select { test, child: Box::new(child) }, ids)
+    }
+
+    /// Some or Every: shapes for U1 and U2, and for U7 and U3 or U4 after them.
+    fn quantified(&mut self, depth: usize, outer: &[u8]) -> Drawn {
+        let (left, left_ids, _) = self.left_side(depth - 1, outer);
+        let (inner, inner_ids) = self.keyed_inner(depth - 1, &left_ids, outer);
+        let test = match self.random.below(10) {
+            0..=1 => ALWAYS,
+            2..=6 => self.test(&inner_ids),
+            _ => self.test(&[&left_ids, &inner_ids, outer].concat()),
+        };
+        let (left, inner) = (Box::new(left), Box::new(inner));
+        if self.random.chance(50) {
+            (Plan::Some { test, left, inner }, left_ids)
+        } else {
+            (Plan::Every { test, left, inner }, left_ids)
+        }
+    }
+
+    /// Fold: shapes for U5, and for U6 after it.
+    fn folded(&mut self, depth: usize, outer: &[u8]) -> Drawn {
+        let (left, left_ids, _) = self.left_side(depth - 1, outer);
+        let (inner, inner_ids) = self.keyed_inner(depth - 1, &left_ids, outer);
+        let Some(new) = self.fresh(1) else {
+            return (left, left_ids);
+        };
+        let view = match self.random.below(10) {
+            0..=6 => inner_ids.clone(),
+            _ => [&left_ids, &inner_ids, outer].concat(),
+        };
+        let test = self.test(&view);
+        let aggregate = self.aggregate(&inner_ids);
+        let ids = [left_ids, vec![new]].concat();
+        (Plan::Fold { aggregate, new, test, left: Box::new(left), inner: Box::new(inner) }, ids)
+    }
+
+    /// Each: the inner plan often closed, as U8 needs it.
+    fn each(&mut self, depth: usize, outer: &[u8]) -> Drawn {
+        let (left, left_ids) = self.plan(depth - 1, outer);
+        let view = match self.random.below(10) {
+            0..=5 => vec![],
+            _ => [&left_ids, outer].concat(),
+        };
+        let (inner, inner_ids) = self.plan(depth - 1, &view);
+        (Plan::Each { left: Box::new(left), inner: Box::new(inner) }, [left_ids, inner_ids].concat())
+    }
+
+    /// Pair: shapes for U6.
+    fn paired(&mut self, depth: usize, outer: &[u8]) -> Drawn {
+        let (left, left_ids, left_key) = self.left_side(depth - 1, outer);
+        let (right, right_ids, right_key) = self.right_side(depth - 1, outer);
+        if left_ids.is_empty() || right_ids.is_empty() {
+            return (left, left_ids);
+        }
+        let Some(new) = self.fresh(1) else {
+            return (left, left_ids);
+        };
+        let keys = Keys {
+            left: self.key_of(&left_ids, left_key),
+            comparison: self.comparison(),
+            right: self.key_of(&right_ids, right_key),
+        };
+        let view = match self.random.below(10) {
+            0..=6 => right_ids.clone(),
+            _ => [&left_ids, &right_ids, outer].concat(),
+        };
+        let test = self.test(&view);
+        let aggregate = self.aggregate(&right_ids);
+        let ids = [left_ids, vec![new]].concat();
+        (Plan::Pair { aggregate, new, keys, test, left: Box::new(left), right: Box::new(right) }, ids)
+    }
+}
+
+/// A Semi or Anti that is right for U3 or U4 but for the ids: all 256 are introduced, or one is
+/// left (then it is c).
+pub fn all_ids_taken(random: &mut Random) -> Input {
+    let codes: Vec<i32> = (0..16).map(|_| code(random)).collect();
+    let wide = Table { columns: 16, rows: vec![codes] };
+    let key = random.below(16) as u8;
+    let left = Plan::Distinct { list: vec![key], child: Box::new(Plan::Scan { table: 0, first: 0 }) };
+    let right = Plan::Scan { table: 0, first: 16 };
+    let right_key = 16 + if random.chance(80) { key } else { random.below(16) as u8 };
+    let (left, right) = (Box::new(left), Box::new(right));
+    let mut plan = if random.chance(50) {
+        Plan::Semi { left_key: key, right_key, test: ALWAYS, left, right }
+    } else {
+        Plan::Anti { left_key: key, right_key, test: ALWAYS, left, right }
+    };
+    let last_is_narrow = random.chance(50);
+    for number in 2..16u8 {
+        let narrow = last_is_narrow && number == 15;
+        let scan = Plan::Scan { table: u8::from(narrow), first: 16 * number };
+        let cut = Plan::Project { list: vec![16 * number], child: Box::new(scan) };
+        plan = Plan::Cross { left: Box::new(plan), right: Box::new(cut) };
+    }
+    let narrow = Table { columns: 15, rows: vec![vec![BLANK; 15]] };
+    Input { tables: vec![wide, narrow], plan }
+}
+
+/// A Semi, Anti or Pair that is right for its rule, below a Cross or Each whose bound grows with
+/// the step, sometimes over 4,096.
+pub fn bound_grows(random: &mut Random) -> Input {
+    let keys: Vec<i32> = (0..4).collect();
+    let short = one_column(&keys);
+    let height = random.between(62, 66);
+    let long = one_column(&run_through(random, &keys, height));
+    let other = one_column(&vec![1; random.between(63, 65)]);
+    let left = Box::new(Plan::Distinct { list: vec![0], child: Box::new(Plan::Scan { table: 0, first: 0 }) });
+    let right = Box::new(Plan::Scan { table: 1, first: 1 });
+    let narrow = match random.below(3) {
+        0 => Plan::Semi { left_key: 0, right_key: 1, test: ALWAYS, left, right },
+        1 => Plan::Anti { left_key: 0, right_key: 1, test: ALWAYS, left, right },
+        _ => {
+            let keys = Keys { left: 0, comparison: random.pick(&COMPARISONS), right: 1 };
+            Plan::Pair { aggregate: Aggregate::Sum(1), new: 2, keys, test: ALWAYS, left, right }
+        }
+    };
+    let (left, right) = (Box::new(narrow), Box::new(Plan::Scan { table: 2, first: 9 }));
+    let plan = if random.chance(50) { Plan::Cross { left, right } } else { Plan::Each { left, inner: right } };
+    Input { tables: vec![short, long, other], plan }
+}
+
+/// A list of steps to try on a plan: some fit where they stand, some do not.
+pub fn steps(random: &mut Random, input: &Input) -> Vec<(u8, u8)> {
+    let mut plan = input.plan.clone();
+    let mut steps = Vec::new();
+    for _ in 0..random.between(0, 12) {
+        let fitting: Vec<(u8, usize)> = (0..plan.size())
+            .filter_map(|place| fit(&plan, place, &input.tables).map(|(rule, _)| (rule, place)))
+            .collect();
+        let (rule, place) = if !fitting.is_empty() && random.chance(60) {
+            random.pick(&fitting)
+        } else {
+            (random.below(10) as u8, random.below(plan.size() + 3))
+        };
+        steps.push((rule, place as u8));
+        plan = try_step(&plan, rule, place, &input.tables);
+    }
+    steps
+}

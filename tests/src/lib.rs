@@ -1,0 +1,20 @@
+//! A second evaluator of club report plans, written from paper 01 alone.
+//!
+//! It shares no code and no definition with the proved library: it reads the same bytes in its
+//! own way, so that a mistake in reading the paper shows as a difference between the two.
+//! It is plain rather than quick. The calls that the library has are in [`calls`].
+
+pub mod build;
+pub mod calls;
+pub mod cases;
+pub mod cells;
+pub mod check;
+pub mod damage;
+pub mod edges;
+pub mod evaluate;
+pub mod generate;
+pub mod nodes;
+pub mod plan;
+pub mod random;
+pub mod rules;
+pub mod tables;

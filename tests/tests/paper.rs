@@ -1,0 +1,425 @@
+//! Paper 01's examples and the readings that were settled, against this evaluator.
+
+use second::build::*;
+use second::calls::*;
+use second::cells::{BLANK, LARGEST, OFF_SCALE};
+use second::check::{columns, need};
+use second::edges::{club, edges, every_kind};
+use second::generate::Input;
+use second::nodes::write_plan;
+use second::plan::Comparison::{AtLeast, AtMost, Equal, Greater, Less, NotEqual};
+use second::plan::{Aggregate, Plan, Test, ALWAYS};
+use second::rules::{fit, free_id, stay_positions, try_step, weight};
+use second::tables::{write_set, Table};
+
+/// The report's rows, of an accepted plan.
+fn rows(tables: &[Table], plan: &Plan) -> Vec<Vec<i32>> {
+    let answer = report(&write_set(tables), &write_plan(plan), ROOMY, ROOMY).expect("a report");
+    match answer.columns {
+        0 => vec![vec![]; answer.rows],
+        width => answer.codes.chunks(width).map(|row| row.to_vec()).collect(),
+    }
+}
+
+/// The number by which a plan is refused.
+fn refusal(tables: &[Table], plan: &Plan) -> Option<u8> {
+    read(&write_set(tables), &write_plan(plan)).err()
+}
+
+/// The aggregate of one column of codes.
+fn aggregate(codes: &[i32], aggregate: Aggregate) -> i32 {
+    rows(&[one_column(codes)], &fold(aggregate, 9, ALWAYS, Plan::Unit, scan(0, 0)))[0][0]
+}
+
+/// The rule that fits at place 0.
+fn rule(tables: &[Table], plan: &Plan) -> Option<u8> {
+    assert_eq!(refusal(tables, plan), None);
+    fit(plan, 0, tables).map(|(rule, _)| rule)
+}
+
+#[test]
+fn m1_and_m2_cross_at_the_bound() {
+    let product = cross(scan(0, 0), scan(1, 1));
+    assert_eq!(refusal(&[sized(1, 64), sized(1, 64)], &product), None);
+    assert_eq!(refusal(&[sized(1, 65), sized(1, 64)], &product), Some(14));
+    assert_eq!(rows(&[sized(1, 64), sized(1, 64)], &product).len(), 4096);
+}
+
+#[test]
+fn m3_and_m4_sums_at_the_range() {
+    assert_eq!(aggregate(&[1_999_999_999, 1], Aggregate::Sum(0)), LARGEST);
+    assert_eq!(aggregate(&[LARGEST, 1], Aggregate::Sum(0)), OFF_SCALE);
+    assert_eq!(aggregate(&[-LARGEST, -1], Aggregate::Sum(0)), OFF_SCALE);
+    // The exact total counts, not a running one; many cells stay exact.
+    assert_eq!(aggregate(&[LARGEST, LARGEST, -LARGEST, 5, -6], Aggregate::Sum(0)), LARGEST - 1);
+    assert_eq!(aggregate(&[LARGEST; 1000], Aggregate::Sum(0)), OFF_SCALE);
+}
+
+#[test]
+fn m5_every_over_no_inner_rows() {
+    let tables = [one_column(&[5, BLANK]), one_column(&[])];
+    assert_eq!(rows(&tables, &every(NEVER, scan(0, 0), scan(1, 1))), [[5], [BLANK]]);
+    assert_eq!(rows(&tables, &some(ALWAYS, scan(0, 0), scan(1, 1))), Vec::<Vec<i32>>::new());
+}
+
+#[test]
+fn m6_blank_is_not_over_30() {
+    let over = number_test(0, Greater, 30);
+    let tables = [one_column(&[BLANK, 31, OFF_SCALE, 30])];
+    assert_eq!(rows(&tables, &select(over, scan(0, 0))), [[31]]);
+    assert_eq!(rows(&tables, &select(over.not_turned(), scan(0, 0))), [[BLANK], [OFF_SCALE], [30]]);
+}
+
+#[test]
+fn m7_each_with_an_empty_inner_plan() {
+    let tables = [one_column(&[5]), table(&[&[1, 2]]), Table { columns: 2, rows: vec![] }];
+    let empty = each(scan(0, 0), scan(2, 1));
+    assert_eq!(rows(&tables, &empty), [[5, BLANK, BLANK]]);
+    assert_eq!(rule(&tables, &empty), None);
+    let full = each(scan(0, 0), scan(1, 1));
+    assert_eq!(rule(&tables, &full), Some(8));
+    assert_eq!(rule(&tables, &each(scan(0, 0), select(NEVER, scan(1, 1)))), None);
+    let open = each(scan(0, 0), select(number_test(0, Equal, 5), scan(1, 1)));
+    assert_eq!(rule(&tables, &open), None);
+}
+
+#[test]
+fn m8_the_listing() {
+    let club = club();
+    let text = "steps 3\nU2 0\nU7 0\nU4 0\nrows 2 columns 1\n7\n4\n";
+    assert_eq!(listing(&club.set_bytes(), &club.plan_bytes(), ROOMY), text);
+    let left = unnest(&club.set_bytes(), &club.plan_bytes(), ROOMY, ROOMY, ROOMY).expect("steps");
+    let test = number_test(2, Greater, 30).not_turned();
+    let counted = with_test(group(Aggregate::Count, 3, keys(0, Equal, 1), scan(1, 1)), test);
+    let expected = project(&[0], select(number_test(3, Equal, 0), counted));
+    assert_eq!(left.plan, write_plan(&expected));
+}
+
+#[test]
+fn m9_another_order_of_cards() {
+    let mut club = club();
+    club.tables[1].rows = vec![vec![9, BLANK], vec![7, 36], vec![4, 31], vec![7, 33]];
+    let (set, plan) = (club.set_bytes(), club.plan_bytes());
+    assert_eq!(listing(&set, &plan, ROOMY), "steps 2\nU2 0\nU7 0\nrows 2 columns 1\n7\n4\n");
+    assert_eq!(stay_note(&set, &plan, 0, ROOMY), Ok(None));
+    let left = unnest(&set, &plan, ROOMY, ROOMY, ROOMY).expect("steps").plan;
+    assert_eq!(stay_note(&set, &left, 0, ROOMY), Ok(Some(vec![0, 1])));
+    assert_eq!(stay_note(&set, &left, 1, ROOMY), Ok(None));
+    assert_eq!(stay_note(&set, &left, 200, ROOMY), Ok(None));
+}
+
+#[test]
+fn the_table_of_refusals() {
+    let unit = write_plan(&Plan::Unit);
+    let number = |set: &[u8], plan: &[u8]| read(set, plan).err();
+    assert_eq!(number(b"TB", &unit), Some(1));
+    assert_eq!(number(b"TBX\x01\x00\x01\x00\x00", &unit), Some(2));
+    assert_eq!(number(b"TBL\x01\x00\x11\x00\x00", &unit), Some(3));
+    assert_eq!(number(&write_set(&[one_column(&[2_000_000_001])]), &unit), Some(4));
+    assert_eq!(number(&write_set(&vec![sized(1, 1); 9]), &unit), Some(5));
+    assert_eq!(number(&write_set(&vec![sized(1, 1); 8]), &unit), None);
+    assert_eq!(number(b"", &unit[..5]), Some(6));
+    assert_eq!(number(b"", b"RPT\x02\x00\x01"), Some(7));
+    assert_eq!(number(b"", b"RPT\x01\x00\x00"), Some(8));
+    assert_eq!(number(b"", b"RPT\x01\x00\x01"), Some(6));
+    assert_eq!(number(b"", &[&b"RPT\x01\x00\x01\x0f"[..], &[0; 23]].concat()), Some(9));
+    assert_eq!(number(b"", &[&b"RPT\x01\x00\x01\x02"[..], &[0; 23]].concat()), Some(10));
+    assert_eq!(refusal(&[], &scan(0, 0)), Some(11));
+    assert_eq!(refusal(&[sized(4, 1)], &project(&[3, 3], scan(0, 0))), Some(12));
+    let wide = cross(cross(scan(0, 0), scan(0, 16)), scan(1, 32));
+    assert_eq!(refusal(&[sized(16, 1), sized(1, 1)], &wide), Some(13));
+    let (set, plan) = (write_set(&[sized(2, 1)]), write_plan(&scan(0, 0)));
+    assert_eq!(report(&set, &plan, 1, ROOMY), Err(15));
+    assert_eq!(report(&set, &plan, 1, 0), Err(16));
+    assert_eq!(report(&set, &plan, 2, 4097), Err(16));
+    assert_eq!(report(&set, &plan, 2, 4098).map(|report| report.codes), Ok(vec![0, 3]));
+}
+
+#[test]
+fn need_counts_every_node() {
+    let tables = [sized(2, 3), sized(3, 5)];
+    let plan = project(&[0], each(scan(0, 0), select(ALWAYS, scan(1, 2))));
+    // Project 15, Each 75, Scan 6, Select 15, Scan 15.
+    assert_eq!(need(&plan, &tables), 4096 + 15 + 75 + 6 + 15 + 15);
+    assert_eq!(need(&Plan::Unit, &[]), 4096);
+}
+
+#[test]
+fn aggregates() {
+    let off = Aggregate::Greatest(0);
+    assert_eq!(aggregate(&[BLANK, 3, -4], Aggregate::Count), 3);
+    assert_eq!(aggregate(&[BLANK, 3, -4], Aggregate::Sum(0)), -1);
+    assert_eq!(aggregate(&[BLANK], Aggregate::Sum(0)), 0);
+    assert_eq!(aggregate(&[], Aggregate::Sum(0)), 0);
+    assert_eq!(aggregate(&[BLANK], Aggregate::Least(0)), BLANK);
+    assert_eq!(aggregate(&[], off), BLANK);
+    assert_eq!(aggregate(&[BLANK, 3, -4], Aggregate::Least(0)), -4);
+    assert_eq!(aggregate(&[BLANK, 3, -4], off), 3);
+    // An off-scale cell wins, also where there is no number.
+    for kind in [Aggregate::Sum(0), Aggregate::Least(0), off] {
+        assert_eq!(aggregate(&[BLANK, OFF_SCALE], kind), OFF_SCALE);
+        assert_eq!(aggregate(&[OFF_SCALE, -7], kind), OFF_SCALE);
+    }
+}
+
+#[test]
+fn group_never_matches_blank_with_blank() {
+    let tables = [table(&[&[7, 1], &[BLANK, 2], &[7, 4], &[BLANK, 8], &[OFF_SCALE, 16]])];
+    let sums = group(Aggregate::Sum(1), 9, keys(8, Equal, 0), scan(0, 0));
+    assert_eq!(rows(&tables, &sums), [[7, 5], [BLANK, 0], [OFF_SCALE, 0]]);
+    assert_eq!(columns(&sums, &tables), [8, 9]);
+    // The value stands left of the comparison: over the rows whose key is smaller.
+    let tables = [table(&[&[3, 1], &[2, 2], &[3, 4]])];
+    let smaller = group(Aggregate::Sum(1), 9, keys(8, Greater, 0), scan(0, 0));
+    assert_eq!(rows(&tables, &smaller), [[3, 2], [2, 0]]);
+}
+
+#[test]
+fn sort_is_stable_both_ways_and_by_code() {
+    let tables = [table(&[&[1, 10], &[BLANK, 11], &[1, 12], &[OFF_SCALE, 13], &[-5, 14]])];
+    let order =
+        |down| -> Vec<i32> { rows(&tables, &sort(down, &[0], scan(0, 0))).into_iter().map(|row| row[1]).collect() };
+    assert_eq!(order(false), [11, 14, 10, 12, 13]);
+    assert_eq!(order(true), [13, 10, 12, 14, 11]);
+}
+
+#[test]
+fn distinct_cuts_then_keeps_first_occurrences() {
+    let tables = [table(&[&[1, BLANK], &[2, 5], &[3, BLANK], &[2, 5]])];
+    assert_eq!(rows(&tables, &distinct(&[1], scan(0, 0))), [[BLANK], [5]]);
+    assert_eq!(rows(&tables, &distinct(&[1, 0], scan(0, 0))), [[BLANK, 1], [5, 2], [BLANK, 3]]);
+}
+
+#[test]
+fn unit_gives_one_row_of_no_columns() {
+    let answer = report(b"", &write_plan(&Plan::Unit), 0, 4096).expect("a report");
+    assert_eq!((answer.rows, answer.columns, answer.codes.len()), (1, 0, 0));
+    assert_eq!(listing(b"", &write_plan(&Plan::Unit), ROOMY), "steps 0\nrows 1 columns 0\n\n");
+}
+
+#[test]
+fn semi_and_anti_share_their_keys() {
+    let tables = [one_column(&[1, BLANK, 2, 1]), table(&[&[1, 5], &[BLANK, 6], &[2, BLANK]])];
+    let test = number_test(2, Less, 10);
+    assert_eq!(rows(&tables, &semi(0, 1, test, scan(0, 0), scan(1, 1))), [[1], [1]]);
+    assert_eq!(rows(&tables, &anti(0, 1, test, scan(0, 0), scan(1, 1))), [[BLANK], [2]]);
+    assert_eq!(rows(&tables, &anti(0, 1, NEVER, scan(0, 0), scan(1, 1))).len(), 4);
+}
+
+/// Some over a Select that compares two columns.
+fn quantified(test: Test) -> Plan {
+    some(number_test(2, Greater, 30), distinct(&[0], scan(0, 0)), select(test, scan(1, 1)))
+}
+
+#[test]
+fn u1_takes_either_way_round_but_no_not_mark() {
+    let tables = club().tables;
+    assert_eq!(rule(&tables, &quantified(columns_test(0, Equal, 1))), Some(1));
+    assert_eq!(rule(&tables, &quantified(columns_test(1, Equal, 0))), Some(1));
+    assert_eq!(rule(&tables, &quantified(columns_test(1, Equal, 0).not_turned())), None);
+    assert_eq!(rule(&tables, &quantified(columns_test(0, AtMost, 1))), None);
+    assert_eq!(rule(&tables, &quantified(columns_test(1, Equal, 2))), None);
+    assert_eq!(rule(&tables, &quantified(columns_test(0, Equal, 0))), None);
+    assert_eq!(rule(&tables, &quantified(number_test(1, Equal, 7))), None);
+    let naming =
+        some(ALWAYS, scan(0, 0), select(columns_test(0, Equal, 1), select(number_test(0, Less, 9), scan(1, 1))));
+    assert_eq!(rule(&tables, &naming), None);
+}
+
+#[test]
+fn u1_lets_the_inner_plan_name_rows_further_out() {
+    let tables = club().tables;
+    let inner = select(columns_test(0, Equal, 1), select(number_test(9, Less, 8), scan(1, 1)));
+    let plan = some(ALWAYS, scan(0, 9), some(ALWAYS, scan(0, 0), inner));
+    assert_eq!(refusal(&tables, &plan), None);
+    assert_eq!(fit(&plan, 0, &tables), None);
+    assert_eq!(fit(&plan, 2, &tables).map(|(rule, _)| rule), Some(1));
+}
+
+#[test]
+fn u5_turns_the_comparison() {
+    let tables = club().tables;
+    for (written, kept) in
+        [(Less, Greater), (AtMost, AtLeast), (Greater, Less), (AtLeast, AtMost), (Equal, Equal), (NotEqual, NotEqual)]
+    {
+        let inner = select(columns_test(1, written, 0), scan(1, 1));
+        let plan = fold(Aggregate::Sum(2), 5, ALWAYS, scan(0, 0), inner);
+        let expected = pair(Aggregate::Sum(2), 5, keys(0, kept, 1), scan(0, 0), scan(1, 1));
+        assert_eq!(fit(&plan, 0, &tables), Some((5, expected.clone())));
+        assert_eq!(rows(&tables, &plan), rows(&tables, &expected));
+    }
+}
+
+#[test]
+fn u7_moves_tests_that_name_only_f() {
+    let tables = club().tables;
+    let with = |test| semi(0, 1, test, scan(0, 0), scan(1, 1));
+    assert_eq!(rule(&tables, &with(number_test(2, Less, 3))), Some(7));
+    assert_eq!(rule(&tables, &with(NEVER)), Some(7));
+    assert_eq!(rule(&tables, &with(columns_test(0, Less, 2))), None);
+    assert_eq!(rule(&tables, &with(ALWAYS)), None);
+    let after = semi(0, 1, ALWAYS, scan(0, 0), select(NEVER, scan(1, 1)));
+    assert_eq!(try_step(&with(NEVER), 7, 0, &tables), after);
+    // With 64 nodes there is no room for the Select.
+    let mut full = with(NEVER);
+    while full.size() < 64 {
+        full = select(ALWAYS, full);
+    }
+    assert_eq!(refusal(&tables, &full), None);
+    assert!((0..64).all(|place| fit(&full, place, &tables).is_none()));
+    let Plan::Select { child, .. } = full else { panic!("a Select") };
+    assert_eq!(fit(&child, 60, &tables).map(|(rule, _)| rule), Some(7));
+}
+
+#[test]
+fn u3_takes_off_one_select_and_compares_codes() {
+    let tables = [one_column(&[7, BLANK, 7]), table(&[&[7, 1], &[BLANK, 2], &[BLANK, 3]]), one_column(&[])];
+    let of = |right| semi(0, 1, ALWAYS, distinct(&[0], scan(0, 0)), right);
+    let plain = of(scan(1, 1));
+    assert_eq!(rule(&tables, &plain), Some(3));
+    assert_eq!(rows(&tables, &try_step(&plain, 3, 0, &tables)), [[7]]);
+    assert_eq!(rule(&tables, &of(select(NEVER, scan(1, 1)))), Some(3));
+    // A second Select stays, and changes the sequence.
+    assert_eq!(rule(&tables, &of(select(ALWAYS, select(NEVER, scan(1, 1))))), None);
+    let positions = stay_positions(&of(select(ALWAYS, select(NEVER, scan(1, 1)))), 0, &tables);
+    assert_eq!(positions, Some(vec![0, 1]));
+    // Two empty sequences are equal.
+    let empty = semi(0, 1, ALWAYS, distinct(&[0], scan(2, 0)), scan(2, 1));
+    assert_eq!(rule(&tables, &empty), Some(3));
+    // A test of the Select that names a row outside: f is not closed.
+    let outside = some(ALWAYS, scan(1, 10), of(select(number_test(10, Equal, 7), scan(1, 1))));
+    assert_eq!(refusal(&tables, &outside), None);
+    assert_eq!(fit(&outside, 2, &tables), None);
+    assert_eq!(stay_positions(&outside, 2, &tables), None);
+}
+
+#[test]
+fn u3_takes_the_smallest_id_of_the_plan_before() {
+    let tables = [table(&[&[7, 1]])];
+    let plan = semi(4, 2, ALWAYS, distinct(&[4], scan(0, 3)), scan(0, 1));
+    assert_eq!(free_id(&plan, &tables), Some(0));
+    let plan = semi(0, 2, ALWAYS, distinct(&[0], scan(0, 0)), scan(0, 2));
+    // Ids 0 to 3 are introduced, 1 only in e, which goes away: c is 4 nevertheless.
+    let counted = group(Aggregate::Count, 4, keys(0, Equal, 2), scan(0, 2));
+    let expected = project(&[0], select(number_test(4, Greater, 0), counted));
+    assert_eq!(fit(&plan, 0, &tables), Some((3, expected)));
+}
+
+#[test]
+fn u6_takes_off_no_select() {
+    let tables = club().tables;
+    let left = || distinct(&[0], scan(0, 0));
+    let plan = pair(Aggregate::Sum(2), 5, keys(0, Less, 1), left(), scan(1, 1));
+    let expected = group(Aggregate::Sum(2), 5, keys(0, Less, 1), scan(1, 1));
+    assert_eq!(fit(&plan, 0, &tables), Some((6, expected)));
+    let never = pair(Aggregate::Sum(2), 5, keys(0, Less, 1), left(), select(NEVER, scan(1, 1)));
+    assert_eq!(rule(&tables, &never), None);
+    assert_eq!(stay_positions(&never, 0, &tables), Some(vec![0, 1, 2]));
+    let shorter = select(number_test(1, Greater, 4), scan(1, 1));
+    let shorter = pair(Aggregate::Sum(2), 5, keys(0, Less, 1), left(), shorter);
+    assert_eq!(stay_positions(&shorter, 0, &tables), Some(vec![2]));
+    let naming = with_test(plan.clone(), columns_test(0, Less, 2));
+    assert_eq!(rule(&tables, &naming), None);
+    assert_eq!(stay_positions(&naming, 0, &tables), None);
+    assert_eq!(rule(&tables, &with_test(plan, NEVER)), Some(6));
+}
+
+#[test]
+fn a_bound_that_grows_over_the_limit_keeps_a_rule_from_fitting() {
+    let keyed = |height: usize| one_column(&(0..height).map(|row| (row % 4) as i32).collect::<Vec<_>>());
+    let semi = semi(0, 1, ALWAYS, distinct(&[0], scan(0, 0)), scan(1, 1));
+    let plan = cross(semi, scan(2, 2));
+    let other = sized(1, 64);
+    assert_eq!(fit(&plan, 1, &[keyed(4), keyed(64), other.clone()]).map(|(rule, _)| rule), Some(3));
+    assert_eq!(fit(&plan, 1, &[keyed(4), keyed(65), other.clone()]), None);
+    // No stay note either where the plan after would be refused.
+    assert_eq!(stay_positions(&plan, 1, &[keyed(3), keyed(65), other.clone()]), None);
+    assert_eq!(stay_positions(&plan, 1, &[keyed(3), keyed(64), other]), Some(vec![3]));
+}
+
+#[test]
+fn no_free_id_no_fit_and_no_note() {
+    for seed in 0..40 {
+        let input = second::generate::all_ids_taken(&mut second::random::Random::new(seed));
+        let place = input.plan.size() - 4 - 2 * 14;
+        assert!(matches!(input.plan.at(place), Some(Plan::Semi { .. } | Plan::Anti { .. })));
+        match free_id(&input.plan, &input.tables) {
+            None => {
+                assert_eq!(fit(&input.plan, place, &input.tables), None);
+                assert_eq!(stay_positions(&input.plan, place, &input.tables), None);
+            }
+            Some(id) => assert_eq!(id, 255),
+        }
+    }
+}
+
+#[test]
+fn rooms_of_the_unnesting_call() {
+    let club = club();
+    let (set, plan) = (club.set_bytes(), club.plan_bytes());
+    let most = unnest_need(&set, &plan).expect("a need") as usize;
+    let left = unnest(&set, &plan, ROOMY, ROOMY, ROOMY).expect("steps");
+    assert_eq!(unnest(&set, &plan, left.plan.len(), 6, most), Ok(left.clone()));
+    assert_eq!(unnest(&set, &plan, left.plan.len() - 1, 6, most), Err(15));
+    assert_eq!(unnest(&set, &plan, left.plan.len(), 5, most), Err(15));
+    assert_eq!(unnest(&set, &plan, 0, 0, most - 1), Err(16));
+    assert_eq!(unnest_word(&Ok(left.clone())), (3 << 8) + ((left.plan.len() as u64) << 24));
+    assert_eq!(unnest_word(&Err(16)), 16);
+}
+
+#[test]
+fn the_largest_need_may_be_that_of_a_plan_in_between() {
+    let tables = [one_column(&[1, 2, 3, 4]), Table { columns: 5, rows: (1..5).map(|key| vec![key; 5]).collect() }];
+    let plan = semi(0, 1, number_test(2, Less, 3), distinct(&[0], scan(0, 0)), scan(1, 1));
+    let (steps, passed) = unnest_tree(&plan, &tables);
+    assert_eq!(steps, [(7, 0), (3, 0)]);
+    let needs: Vec<u64> = passed.iter().map(|plan| need(plan, &tables) - 4096).collect();
+    // Semi 4, Distinct 4, Scan 4, Scan 20; a Select of 20 more; Project 4, Select 8, Group 8, Scan 20.
+    assert_eq!(needs, [32, 52, 40]);
+    let (set, plan) = (write_set(&tables), write_plan(&plan));
+    assert_eq!(unnest(&set, &plan, 0, 0, 4096 + 51), Err(16));
+    assert_eq!(unnest(&set, &plan, 0, 0, 4096 + 52), Err(15));
+}
+
+#[test]
+fn trying_steps() {
+    let club = club();
+    let (set, plan) = (club.set_bytes(), club.plan_bytes());
+    let left = unnest(&set, &plan, ROOMY, ROOMY, ROOMY).expect("steps");
+    assert_eq!(try_steps(&set, &plan, &left.steps), Ok(left.plan.clone()));
+    let other = [(0, 0), (9, 0), (1, 0), (2, 60), (2, 255), (2, 1), (4, 0)];
+    assert_eq!(try_steps(&set, &plan, &other), Ok(plan.clone()));
+    let mixed = [(2, 0), (2, 0), (4, 0), (7, 0), (8, 0), (4, 0), (4, 0)];
+    assert_eq!(try_steps(&set, &plan, &mixed), Ok(left.plan));
+}
+
+#[test]
+fn weights() {
+    assert_eq!(weight(&club().plan), 3);
+    // Pair 1, Group 0, Semi 2, Anti 2, Fold 2, Some 3, Every 3, Each 1.
+    assert_eq!(weight(&every_kind()), 14);
+    assert_eq!(weight(&semi(0, 1, ALWAYS, scan(0, 0), scan(0, 1))), 1);
+}
+
+#[test]
+fn edges_are_accepted_and_keep_their_reports() {
+    for (name, Input { tables, plan }) in edges() {
+        assert_eq!(refusal(&tables, &plan), None, "{name}");
+        let (_, passed) = unnest_tree(&plan, &tables);
+        let last = &passed[passed.len() - 1];
+        assert_eq!(report_of(&plan, &tables), report_of(last, &tables), "{name}");
+    }
+}
+
+#[test]
+fn words_for_c() {
+    let answer = report(&club().set_bytes(), &club().plan_bytes(), ROOMY, ROOMY);
+    assert_eq!(report_word(&answer), (1 << 8) + (2 << 16));
+    assert_eq!(report_word(&Err(12)), 12);
+    let note = Ok(Some(vec![2, 5]));
+    assert!(stay_note_word_is_right(&note, (1 << 8) + (5 << 16)));
+    assert!(!stay_note_word_is_right(&note, (1 << 8) + (3 << 16)));
+    assert!(!stay_note_word_is_right(&note, 0));
+    assert!(stay_note_word_is_right(&Ok(None), 0));
+    assert!(stay_note_word_is_right(&Err(16), 16));
+}

@@ -1,0 +1,87 @@
+//! Checks over random accepted plans that catch mistakes in reading the paper: unnesting keeps
+//! the report, the steps stay within the weight, and no rule is left that fits.
+
+use second::calls::{read, report_of, unnest_tree};
+use second::check::columns;
+use second::generate::{accepted, steps};
+use second::nodes::write_plan;
+use second::random::Random;
+use second::rules::{first_fit, fit, stay_positions, try_step, weight};
+
+/// How many random plans are tried.
+const PLANS: u64 = 10_000;
+
+#[test]
+fn unnesting_keeps_the_report() {
+    let mut fitted = [0usize; 9];
+    let mut kinds = [0usize; 15];
+    let mut longest = 0;
+    for seed in 0..PLANS {
+        let input = accepted(&mut Random::new(seed));
+        let (tables, tree) = read(&input.set_bytes(), &input.plan_bytes()).expect("an accepted plan");
+        assert_eq!((&tables, &tree), (&input.tables, &input.plan));
+        tree.nodes().iter().for_each(|node| kinds[usize::from(node.kind())] += 1);
+        let (steps, passed) = unnest_tree(&tree, &tables);
+        let last = &passed[passed.len() - 1];
+        steps.iter().for_each(|&(rule, _)| fitted[usize::from(rule)] += 1);
+        longest = longest.max(steps.len());
+        assert_eq!(columns(&tree, &tables), columns(last, &tables), "seed {seed}");
+        assert_eq!(report_of(&tree, &tables), report_of(last, &tables), "seed {seed}");
+        assert!(steps.len() + weight(last) <= weight(&tree), "seed {seed}");
+        assert!(first_fit(last, &tables).is_none());
+        assert!(read(&input.set_bytes(), &write_plan(last)).is_ok());
+    }
+    println!("nodes by kind {kinds:?}");
+    println!("steps by rule {:?}, longest list {longest}", &fitted[1..]);
+    assert!(fitted[1..].iter().all(|&count| count > 200), "{fitted:?}");
+}
+
+#[test]
+fn any_list_of_steps_keeps_the_report() {
+    let mut changed = [0usize; 9];
+    let mut stayed = 0;
+    for seed in 0..4_000 {
+        let mut random = Random::new(1_000_000 + seed);
+        let input = accepted(&mut random);
+        let tables = &input.tables;
+        let list = steps(&mut random, &input);
+        let mut plan = input.plan.clone();
+        for &(rule, place) in &list {
+            let after = try_step(&plan, rule, usize::from(place), tables);
+            if after == plan {
+                stayed += 1;
+            } else {
+                changed[usize::from(rule)] += 1;
+                assert!(weight(&after) < weight(&plan), "seed {seed}");
+            }
+            plan = after;
+        }
+        assert_eq!(columns(&input.plan, tables), columns(&plan, tables), "seed {seed}");
+        assert_eq!(report_of(&input.plan, tables), report_of(&plan, tables), "seed {seed}");
+    }
+    println!("tried steps that fitted by rule {:?}, that did not {stayed}", &changed[1..]);
+    assert!(changed[1..].iter().all(|&count| count > 50), "{changed:?}");
+}
+
+#[test]
+fn a_stay_note_stands_only_where_no_rule_fits() {
+    let (mut notes, mut ended, mut differing) = (0, 0, 0);
+    for seed in 0..4_000 {
+        let input = accepted(&mut Random::new(2_000_000 + seed));
+        for place in 0..input.plan.size() + 2 {
+            let Some(positions) = stay_positions(&input.plan, place, &input.tables) else {
+                continue;
+            };
+            notes += 1;
+            assert!(!positions.is_empty());
+            assert!(fit(&input.plan, place, &input.tables).is_none());
+            if positions.len() == 1 {
+                ended += 1;
+            } else {
+                differing += 1;
+            }
+        }
+    }
+    println!("stay notes {notes}, with one position {ended}, with several {differing}");
+    assert!(notes > 100);
+}
