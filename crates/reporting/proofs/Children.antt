@@ -1,0 +1,186 @@
+-- What the tree at a place is made of, by the number of its node's children. Assumes nothing.
+use Prim.Native.Nat.{ℕ, _+_, _*_, _≤_, _<_}
+use mathlib.Core.Bool.{Bool, true, false, not, _&&_}
+use mathlib.Core.Logic.{_⊎_, inl, inr, ⊎-elim}
+use mathlib.Core.Path.{_≡_, refl, sym, ap, subst}
+use mathlib.Core.List.{List, [], _∷_, _++_, map}
+use native.Mathlib.Omega.{arith}
+use lib.Dec.{ltb}
+use lib.ListN.{length, length-append}
+use borrow.Author.Tests.{le-ltb}
+use Rattle.algebra.specs.Lists.{flatMap, total}
+use Rattle.algebra.specs.Plans.{Env, Tables, Leaf, Unary, Binary, cross, semi, quant, fold, each, pair, Plan, leaf, one, two, bind, columns, nested, around, emit, joined, eval}
+use Rattle.algebra.specs.Places.{Operator, leafNode, unaryNode, binaryNode, size, subtrees}
+use Rattle.algebra.specs.Refusals.{width, bound, region}
+use Rattle.reading.specs.Plan.{nodeAt, nodesOf}
+use Rattle.reading.specs.Tree.{operatorBy, operatorOf, planAt}
+use Rattle.reading.specs.Nodes.{arity, operatorNested}
+use Rattle.reading.specs.declared.plan.Node.{Node}
+use Rattle.reading.proofs.Operators.{by-kind, kind-above}
+use Rattle.reading.proofs.Trees.{plan-case, firstTree, secondTree}
+use Rattle.reporting.specs.Rows.{acted, actedColumns, emitted, emittedColumns, emittedMost}
+use Rattle.reporting.specs.Evaluation.{Sound, regions, nestedRow, plainRow, leafGiven, leafWidth, leafMost}
+use Rattle.reporting.proofs.Soundness.{sound-child, sound-left, sound-right}
+
+-- ---- the cells that a tree takes
+
+total-append : {A : Type 0} (f : A → ℕ) (xs ys : List A) → total (map f (xs ++ ys)) ≡ total (map f xs) + total (map f ys)
+total-append f [] ys = omega arith
+total-append f (x ∷ xs) ys = omega (arith, total-append f xs ys)
+
+-- a node's own rows lie in the tree's cells
+pub region-within : (T : Tables) (p : Plan) → region T p ≤ regions T p
+unfolding subtrees
+region-within T (leaf x) = omega arith
+region-within T (one u p) = omega arith
+region-within T (two b e f) = omega arith
+
+-- ---- by the number of children
+
+pub record Childless (T : Tables) (op : Operator) (P : Plan) : Type 0 where
+  pub rows : (env : Env) → eval T P env ≡ leafGiven T op
+  pub wide : width T P ≡ leafWidth T op
+  pub most : bound T P ≡ leafMost T op
+
+-- p the first child
+pub record First (T : Tables) (P p : Plan) : Type 0 where
+  pub sound : Sound T P → Sound T p
+  pub room : region T P + regions T p ≤ regions T P
+  pub smaller : size p < size P
+
+-- .. and the only one
+pub record Single (T : Tables) (op : Operator) (P p : Plan) : Type 0 where
+  pub rows : (env : Env) → eval T P env ≡ acted op (columns T p) env (eval T p env)
+  pub ids : columns T P ≡ actedColumns op (columns T p)
+  pub most : bound T P ≡ bound T p
+
+-- .. or the first of two; the second is run for each left row where the node is nested
+pub record Double (T : Tables) (op : Operator) (P p q : Plan) : Type 0 where
+  pub nests : operatorNested op ≡ true → (env : Env) → eval T P env ≡ flatMap (nestedRow T op (columns T p) q env) (eval T p env)
+  pub plain : operatorNested op ≡ false → (env : Env) → eval T P env ≡ flatMap (plainRow op (columns T p) (columns T q) (eval T q env) env) (eval T p env)
+  pub ids : columns T P ≡ emittedColumns op (columns T p) (columns T q)
+  pub most : bound T P ≡ bound T p * emittedMost op (bound T q)
+  pub sound : Sound T P → Sound T q
+  pub room : region T P + regions T p + regions T q ≤ regions T P
+  pub smaller : size q < size P
+
+module _ (T : Tables) where
+  childless : (x : Leaf) → Childless T (leafNode x) (leaf x)
+  unfolding eval columns bound
+  childless x = record { rows = λ env. refl; wide = refl; most = refl }
+
+  first-one : (u : Unary) (p : Plan) → First T (one u p) p
+  unfolding subtrees size
+  first-one u p = record { sound = sound-child; room = omega arith; smaller = omega arith }
+
+  first-two : (b : Binary) (e f : Plan) → First T (two b e f) e
+  unfolding subtrees size
+  first-two b e f = record { sound = sound-left; room = omega (arith, total-append (region T) (subtrees e) (subtrees f)); smaller = omega arith }
+
+  single : (u : Unary) (p : Plan) → Single T (unaryNode u) (one u p) p
+  unfolding eval columns bound acted
+  single u p = record { rows = λ env. refl; ids = refl; most = refl }
+
+  double-rows : (b : Binary) (e f : Plan) (m : Bool) (env : Env) → nested b ≡ m
+      → eval T (two b e f) env ≡ flatMap (λ l. emit b (columns T f) l (bind (columns T e) l env) (eval T f (around m env (bind (columns T e) l env)))) (eval T e env)
+  unfolding eval joined
+  double-rows b e f m env h = ap (λ (z : Bool). flatMap (λ l. emit b (columns T f) l (bind (columns T e) l env) (eval T f (around z env (bind (columns T e) l env)))) (eval T e env)) h
+
+  pub double-room : (b : Binary) (e f : Plan) → region T (two b e f) + regions T e + regions T f ≤ regions T (two b e f)
+  unfolding subtrees
+  double-room b e f = omega (arith, total-append (region T) (subtrees e) (subtrees f))
+
+  double : (b : Binary) (e f : Plan) → Double T (binaryNode b) (two b e f) e f
+  unfolding columns bound emitted size
+  double b e f = record {
+    nests = λ h env. double-rows b e f true env h;
+    plain = λ h env. double-rows b e f false env h;
+    ids = refl;
+    most = refl;
+    sound = sound-right;
+    room = double-room b e f;
+    smaller = omega arith;
+  }
+
+  -- the tree at a place, whose node was read
+  module _ (plan : List ℕ) (at : ℕ) (node : Node) (h : at < nodesOf plan) (e : node ≡ nodeAt plan at) where
+    pub childless-at : arity (operatorOf node) ≡ 0 → Childless T (operatorOf node) (planAt plan at)
+    childless-at z =
+        subst (λ (n : Node). arity (operatorOf n) ≡ 0 → Childless T (operatorOf n) (planAt plan at)) (sym e)
+        (plan-case plan at (λ op p. arity op ≡ 0 → Childless T op p) (λ x k. childless x) (λ u k. absurd (omega arith)) (λ b k. absurd (omega arith)) h) z
+
+    pub first-at : (arity (operatorOf node) ≡ 0 → ⊥) → First T (planAt plan at) (planAt plan (at + 1))
+    first-at z =
+        subst (λ (n : Node). (arity (operatorOf n) ≡ 0 → ⊥) → First T (planAt plan at) (planAt plan (at + 1))) (sym e)
+        (plan-case plan at (λ op p. (arity op ≡ 0 → ⊥) → First T p (planAt plan (at + 1))) (λ x k. absurd (k refl)) (λ u k. first-one u (firstTree plan at))
+        (λ b k. first-two b (firstTree plan at) (secondTree plan at)) h) z
+
+    pub single-at : arity (operatorOf node) ≡ 1 → Single T (operatorOf node) (planAt plan at) (planAt plan (at + 1))
+    single-at z =
+        subst (λ (n : Node). arity (operatorOf n) ≡ 1 → Single T (operatorOf n) (planAt plan at) (planAt plan (at + 1))) (sym e)
+        (plan-case plan at (λ op p. arity op ≡ 1 → Single T op p (planAt plan (at + 1))) (λ x k. absurd (omega arith)) (λ u k. single u (firstTree plan at)) (λ b k. absurd (omega arith)) h) z
+
+    pub double-at : arity (operatorOf node) ≡ 2 → Double T (operatorOf node) (planAt plan at) (firstTree plan at) (secondTree plan at)
+    double-at z =
+        subst (λ (n : Node). arity (operatorOf n) ≡ 2 → Double T (operatorOf n) (planAt plan at) (firstTree plan at) (secondTree plan at)) (sym e)
+        (plan-case plan at (λ op p. arity op ≡ 2 → Double T op p (firstTree plan at) (secondTree plan at)) (λ x k. absurd (omega arith)) (λ u k. absurd (omega arith))
+        (λ b k. double b (firstTree plan at) (secondTree plan at)) h) z
+
+-- a node has no more than two children
+pub two-of : (op : Operator) → (arity op ≡ 0 → ⊥) → (arity op ≡ 1 → ⊥) → arity op ≡ 2
+two-of (leafNode x) a b = absurd (a refl)
+two-of (unaryNode u) a b = absurd (b refl)
+two-of (binaryNode x) a b = refl
+
+-- more right rows give no fewer rows
+pub most-mono : (op : Operator) (j k : ℕ) → j ≤ k → emittedMost op j ≤ emittedMost op k
+most-mono (leafNode x) j k h = omega arith
+most-mono (unaryNode u) j k h = omega arith
+most-mono (binaryNode cross) j k h = h
+most-mono (binaryNode (semi m l r t)) j k h = omega arith
+most-mono (binaryNode (quant m t)) j k h = omega arith
+most-mono (binaryNode (fold g n t)) j k h = omega arith
+most-mono (binaryNode each) j k h = omega arith
+most-mono (binaryNode (pair g n l r c t)) j k h = omega arith
+
+-- ---- by the kind
+module _ (node : Node) where
+  -- the nested kinds are 8 to 11
+  nested-by : (k : ℕ) → not (ltb k 8) && ltb k 12 ≡ operatorNested (operatorBy k node)
+  unfolding operatorBy
+  nested-by k =
+      by-kind (λ k. not (ltb k 8) && ltb k 12 ≡ operatorNested (operatorBy k node)) refl refl refl refl refl refl refl refl refl refl refl refl refl refl refl
+      (λ k h. rw (le-ltb k 8 (omega arith), le-ltb k 12 (omega arith)) (sym (ap operatorNested (kind-above node k h)))) k
+
+  pub nested-kind : not (ltb (node .kind) 8) && ltb (node .kind) 12 ≡ operatorNested (operatorOf node)
+  nested-kind = nested-by (node .kind)
+
+  module _ (cs ds : List ℕ) where
+    abbrev Wide : ℕ → ℕ → Type 0
+    Wide n k = n ≡ length (emittedColumns (operatorBy k node) cs ds)
+
+    pub both-wide : (node .kind ≡ 5) ⊎ (node .kind ≡ 11) → Wide (length cs + length ds) (node .kind)
+    unfolding operatorBy
+    both-wide =
+        let both : length cs + length ds ≡ length (cs ++ ds) = sym (length-append cs ds) in
+        ⊎-elim (λ e. subst (Wide (length cs + length ds)) (sym e) both) (λ e. subst (Wide (length cs + length ds)) (sym e) both)
+
+    pub more-wide : (node .kind ≡ 10) ⊎ (node .kind ≡ 12) → Wide (length cs + 1) (node .kind)
+    unfolding operatorBy
+    more-wide =
+        let more : length cs + 1 ≡ length (cs ++ (node .id ∷ [])) = sym (length-append cs (node .id ∷ [])) in
+        ⊎-elim (λ e. subst (Wide (length cs + 1)) (sym e) more) (λ e. subst (Wide (length cs + 1)) (sym e) more)
+
+    left-by : (k : ℕ) → arity (operatorBy k node) ≡ 2 → ((k ≡ 5) ⊎ (k ≡ 11) → ⊥) → ((k ≡ 10) ⊎ (k ≡ 12) → ⊥) → Wide (length cs) k
+    unfolding operatorBy
+    left-by k =
+        by-kind (λ k. arity (operatorBy k node) ≡ 2 → ((k ≡ 5) ⊎ (k ≡ 11) → ⊥) → ((k ≡ 10) ⊎ (k ≡ 12) → ⊥) → Wide (length cs) k)
+        (λ a b c. absurd (omega arith)) (λ a b c. absurd (omega arith)) (λ a b c. absurd (omega arith)) (λ a b c. absurd (omega arith)) (λ a b c. absurd (omega arith))
+        (λ a b c. absurd (b (inl refl)))
+        (λ a b c. refl) (λ a b c. refl) (λ a b c. refl) (λ a b c. refl)
+        (λ a b c. absurd (c (inl refl))) (λ a b c. absurd (b (inr refl))) (λ a b c. absurd (c (inr refl)))
+        (λ a b c. absurd (omega arith)) (λ a b c. absurd (omega arith))
+        (λ k h a b c. absurd (omega (arith, ap arity (kind-above node k h)))) k
+
+    pub left-wide : arity (operatorOf node) ≡ 2 → ((node .kind ≡ 5) ⊎ (node .kind ≡ 11) → ⊥) → ((node .kind ≡ 10) ⊎ (node .kind ≡ 12) → ⊥) → Wide (length cs) (node .kind)
+    left-wide = left-by (node .kind)

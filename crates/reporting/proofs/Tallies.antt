@@ -1,0 +1,169 @@
+-- Adding a cell keeps what a tally says, and every aggregate is read off it. Assumes nothing.
+use Prim.Native.Nat.{ℕ, suc, _+_, _*_, _≤_, min, max}
+use mathlib.Core.Path.{_≡_, refl, sym, ap, _∙_, subst}
+use mathlib.Core.Bool.{Bool, true, false, not, cond, _||_}
+use mathlib.Core.List.{List, [], _∷_, _++_, map, foldr, append-nil}
+use native.Mathlib.Numerals.{add-one}
+use native.Mathlib.Nat.{add-comm, add-assoc, min-comm, max-comm}
+use native.Mathlib.Omega.{arith}
+use lib.Dec.{eqb}
+use lib.ListN.{length, take, drop, length-append, length-map}
+use borrow.Author.Tests.{eqb-true, ne-eqb}
+use Rattle.algebra.specs.Lists.{filter, any, total}
+use Rattle.algebra.specs.Cells.{Aggregate, count, over, sum, least, greatest, blank, offScale, origin, sumOf, summary, aggregate}
+use Rattle.algebra.specs.Plans.{Row, Env, bind, measure, gather}
+use Rattle.algebra.specs.Places.{Operator}
+use Rattle.algebra.proofs.Lists.{filter-length}
+use Rattle.algebra.proofs.Cells.{eqb-sym}
+use Rattle.reporting.specs.Rows.{chunk, passing, aggregateIn, gathered}
+use Rattle.reporting.specs.Tallies.{measured, notBlank, Tallies, lesser, added, tallied, rowAdded}
+use Rattle.reporting.specs.declared.gather.Tally.{Tally}
+use Rattle.reporting.proofs.Chunks.{chunk-snoc, length-chunk}
+
+-- ---- one element more at the end
+module _ (op : ℕ → ℕ → ℕ) (assoc : (a b c : ℕ) → op (op a b) c ≡ op a (op b c)) (comm : (a b : ℕ) → op a b ≡ op b a) where
+  foldr-last : (z x : ℕ) (xs : List ℕ) → foldr op z (xs ++ (x ∷ [])) ≡ op x (foldr op z xs)
+  foldr-last z x [] = refl
+  foldr-last z x (y ∷ xs) =
+      ap (op y) (foldr-last z x xs)
+      ∙ sym (assoc y x (foldr op z xs))
+      ∙ ap (λ (v : ℕ). op v (foldr op z xs)) (comm y x)
+      ∙ assoc x y (foldr op z xs)
+
+module _ {A : Type 0} (p : A → Bool) where
+  filter-last : (x : A) (xs : List A) → filter p (xs ++ (x ∷ [])) ≡ filter p xs ++ cond (p x) (x ∷ []) []
+  filter-last x [] = refl
+  filter-last x (y ∷ xs) =
+      elim (p y) as (λ b. cond b (y ∷ filter p (xs ++ (x ∷ []))) (filter p (xs ++ (x ∷ []))) ≡ cond b (y ∷ filter p xs) (filter p xs) ++ cond (p x) (x ∷ []) []) [
+        | true ↦ ap (λ (l : List A). y ∷ l) (filter-last x xs)
+        | false ↦ filter-last x xs
+      ]
+
+or-swap : (a b c : Bool) → (a || (b || c)) ≡ (b || (a || c))
+or-swap true true c = refl
+or-swap true false c = refl
+or-swap false b c = refl
+
+any-last : (p : ℕ → Bool) (x : ℕ) (xs : List ℕ) → any p (xs ++ (x ∷ [])) ≡ (p x || any p xs)
+any-last p x [] = refl
+any-last p x (y ∷ xs) = ap (λ (b : Bool). p y || b) (any-last p x xs) ∙ or-swap (p y) (p x) (any p xs)
+
+min-assoc : (a b c : ℕ) → min (min a b) c ≡ min a (min b c)
+min-assoc a b c = omega arith
+
+max-assoc : (a b c : ℕ) → max (max a b) c ≡ max a (max b c)
+max-assoc a b c = omega arith
+
+length-last : (x : ℕ) (xs : List ℕ) → length (xs ++ (x ∷ [])) ≡ length xs + 1
+length-last x xs = length-append xs (x ∷ [])
+
+least-last : (x : ℕ) (xs : List ℕ) → summary least (xs ++ (x ∷ [])) ≡ lesser (length xs) (summary least xs) x
+least-last x [] = refl
+least-last x (y ∷ xs) = rw (ne-eqb (suc (length xs)) 0 (λ e. omega arith)) (foldr-last min min-assoc min-comm y x xs)
+
+-- ---- the two laws of a tally
+
+-- adding a cell keeps it
+pub tallies-add : (xs : List ℕ) (t : Tally) (x : ℕ) → Tallies xs t → Tallies (xs ++ (x ∷ [])) (added t x)
+unfolding added
+tallies-add xs t x says = record {
+  counted = ap (λ (n : ℕ). n + 1) (says .counted) ∙ sym (length-last x xs);
+  scaled = ap (λ (b : Bool). eqb offScale x || b) (says .scaled) ∙ sym (any-last (eqb offScale) x xs);
+  numbered = go (eqb x blank) refl .0;
+  summed = go (eqb x blank) refl .1;
+  lowest = go (eqb x blank) refl .2;
+  highest = go (eqb x blank) refl .3;
+}
+  where
+    ns : List ℕ
+    ns = notBlank xs
+
+    last : List ℕ
+    last = notBlank (xs ++ (x ∷ []))
+
+    Says : Bool → Type 0
+    Says b =
+        (cond b (t .numbers) (t .numbers + 1) ≡ length last)
+        × (t .sum + x ≡ total last)
+        × (cond b (t .least) (lesser (t .numbers) (t .least) x) ≡ summary least last)
+        × (max x (t .greatest) ≡ summary greatest last)
+
+    go : (b : Bool) → eqb x blank ≡ b → Says b
+    go true e =
+        let same : last ≡ ns = filter-last (λ y. not (eqb y blank)) x xs ∙ ap (λ (b : Bool). ns ++ cond (not b) (x ∷ []) []) e ∙ append-nil ns in
+        let none : x ≡ 0 = eqb-true x blank e in (
+          says .numbered ∙ sym (ap length same),
+          omega (arith, says .summed, ap total same),
+          says .lowest ∙ sym (ap (summary least) same),
+          omega (arith, says .highest, ap (summary greatest) same),
+        )
+    go false e =
+        let more : last ≡ ns ++ (x ∷ []) = filter-last (λ y. not (eqb y blank)) x xs ∙ ap (λ (b : Bool). ns ++ cond (not b) (x ∷ []) []) e in (
+          ap (λ (n : ℕ). n + 1) (says .numbered) ∙ sym (ap length more ∙ length-last x ns),
+          add-comm (t .sum) x ∙ ap (λ (s : ℕ). x + s) (says .summed) ∙ sym (ap total more ∙ foldr-last _+_ add-assoc add-comm 0 x ns),
+          (λ j. lesser (says .numbered j) (says .lowest j) x) ∙ sym (ap (summary least) more ∙ least-last x ns),
+          ap (max x) (says .highest) ∙ sym (ap (summary greatest) more ∙ foldr-last max max-assoc max-comm blank x ns),
+        )
+
+-- a blank is only counted
+pub added-blank : (t : Tally) → record { rows = t .rows + 1; numbers = t .numbers; sum = t .sum; least = t .least; greatest = t .greatest; off = t .off } ≡ added t blank
+unfolding added
+added-blank t =
+    let s : t .sum ≡ t .sum + 0 = omega arith in
+    let g : t .greatest ≡ max 0 (t .greatest) = omega arith in
+    λ j. record { rows = t .rows + 1; numbers = t .numbers; sum = s j; least = t .least; greatest = g j; off = t .off }
+
+-- any other cell, with what the code finds for it
+pub added-cell : (t : Tally) (x low high : ℕ) (off : Bool) → (x ≡ blank → ⊥) → low ≡ lesser (t .numbers) (t .least) x → high ≡ max x (t .greatest) → off ≡ (eqb x offScale || t .off)
+    → record { rows = t .rows + 1; numbers = t .numbers + 1; sum = t .sum + x; least = low; greatest = high; off = off } ≡ added t x
+unfolding added
+added-cell t x low high off h l g o =
+    let n : t .numbers + 1 ≡ cond (eqb x blank) (t .numbers) (t .numbers + 1) = rw (ne-eqb x blank h) in
+    let m : low ≡ cond (eqb x blank) (t .least) (lesser (t .numbers) (t .least) x) = rw (ne-eqb x blank h) l in
+    let p : off ≡ (eqb offScale x || t .off) = o ∙ ap (λ (b : Bool). b || t .off) (eqb-sym x offScale) in
+    λ j. record { rows = t .rows + 1; numbers = n j; sum = t .sum + x; least = m j; greatest = g j; off = p j }
+
+-- every aggregate is read off it
+pub tallies-read : (g : Aggregate) (xs : List ℕ) (t : Tally) → Tallies xs t → aggregate g xs ≡ tallied g t
+unfolding aggregate tallied
+tallies-read count xs t says = sym (ap (λ (n : ℕ). origin + n) (says .counted))
+tallies-read (over sum c) xs t says = sym (λ j. cond (says .scaled j) offScale (sumOf (says .numbered j) (says .summed j)))
+tallies-read (over least c) xs t says = sym (λ j. cond (says .scaled j) offScale (says .lowest j))
+tallies-read (over greatest c) xs t says = sym (λ j. cond (says .scaled j) offScale (says .highest j))
+
+-- ---- rows
+module _ (op : Operator) (ds : List ℕ) (env : Env) where
+  -- a row more
+  tallies-row : (rs : List Row) (r : Row) (t : Tally) → Tallies (measured op ds env rs) t → Tallies (measured op ds env (rs ++ (r ∷ []))) (rowAdded op (bind ds r env) t)
+  unfolding measured rowAdded
+  tallies-row rs r t says =
+      let read : Row → ℕ = λ q. measure (aggregateIn op) (bind ds q env) in
+      let passed : List Row = filter (λ q. passing op (bind ds q env)) rs in
+      subst (λ (l : List ℕ). Tallies l (cond (passing op (bind ds r env)) (added t (read r)) t)) (sym (ap (map read) (filter-last (λ q. passing op (bind ds q env)) r rs)))
+      (elim (passing op (bind ds r env)) as (λ b. Tallies (map read (passed ++ cond b (r ∷ []) [])) (cond b (added t (read r)) t)) [
+        | true ↦ subst (λ (l : List ℕ). Tallies l (added t (read r))) (sym (map-last read passed r)) (tallies-add (map read passed) t (read r) says)
+        | false ↦ subst (λ (l : List Row). Tallies (map read l) t) (sym (append-nil passed)) says
+      ])
+    where
+      map-last : (f : Row → ℕ) (qs : List Row) (q : Row) → map f (qs ++ (q ∷ [])) ≡ map f qs ++ (f q ∷ [])
+      map-last f [] q = refl
+      map-last f (p ∷ qs) q = ap (λ (l : List ℕ). f p ∷ l) (map-last f qs q)
+
+  -- the row at hand of the cells
+  pub tallies-turn : (w i : ℕ) (cells : List ℕ) (t t′ : Tally) → Tallies (measured op ds env (chunk i w cells)) t
+      → t′ ≡ rowAdded op (bind ds (take w (drop (i * w) cells)) env) t → Tallies (measured op ds env (chunk (i + 1) w cells)) t′
+  tallies-turn w i cells t t′ says e =
+      let row : Row = take w (drop (i * w) cells) in
+      let one : chunk (i + 1) w cells ≡ chunk i w cells ++ (row ∷ []) = ap (λ (n : ℕ). chunk n w cells) (add-one i) ∙ chunk-snoc i w cells in
+      subst (λ (s : Tally). Tallies (measured op ds env (chunk (i + 1) w cells)) s) (sym e)
+      (subst (λ (l : List Row). Tallies (measured op ds env l) (rowAdded op (bind ds row env) t)) (sym one) (tallies-row (chunk i w cells) row t says))
+
+  -- no more rows than there are
+  pub tallies-few : (w i : ℕ) (cells : List ℕ) (t : Tally) → Tallies (measured op ds env (chunk i w cells)) t → t .rows ≤ i
+  unfolding measured
+  tallies-few w i cells t says =
+      omega (arith, says .counted, length-map (filter (λ q. passing op (bind ds q env)) (chunk i w cells)) (λ q. measure (aggregateIn op) (bind ds q env)), filter-length (λ q. passing op (bind ds q env)) (chunk i w cells), length-chunk i w cells)
+
+  pub tallies-done : (rs : List Row) (t : Tally) → Tallies (measured op ds env rs) t → gathered op ds env rs ≡ tallied (aggregateIn op) t
+  unfolding gather measured
+  tallies-done rs t says = tallies-read (aggregateIn op) (measured op ds env rs) t says

@@ -1,0 +1,63 @@
+-- A tally: what the measured cells of the rows that passed come to, for all four aggregates (paper 01, "The plan"). Definitions only.
+use Prim.Native.Nat.{ℕ, _+_, _*_, _≤_, min, max}
+use mathlib.Core.Bool.{not, cond, _||_}
+use mathlib.Core.Path.{_≡_}
+use mathlib.Core.List.{List, map}
+use lib.Dec.{eqb}
+use lib.ListN.{length}
+use Rattle.algebra.specs.Lists.{filter, any, total}
+use Rattle.algebra.specs.Cells.{Aggregate, count, over, Summary, sum, least, greatest, blank, offScale, origin, sumOf, summary}
+use Rattle.algebra.specs.Plans.{Row, Env, bind, measure}
+use Rattle.algebra.specs.Places.{Operator}
+use Rattle.reporting.specs.Rows.{passing, aggregateIn}
+use Rattle.reporting.specs.declared.gather.Tally.{Tally}
+
+-- the measured cells of the rows that pass
+unfoldable pub measured : Operator → List ℕ → Env → List Row → List ℕ
+measured op ds env rs = map (λ r. measure (aggregateIn op) (bind ds r env)) (filter (λ r. passing op (bind ds r env)) rs)
+
+abbrev pub notBlank : List ℕ → List ℕ
+notBlank xs = filter (λ x. not (eqb x blank)) xs
+
+-- what a tally says of the measured cells xs
+pub record Tallies (xs : List ℕ) (t : Tally) : Type 0 where
+  pub counted : t .rows ≡ length xs
+  pub scaled : t .off ≡ any (eqb offScale) xs
+  pub numbered : t .numbers ≡ length (notBlank xs)
+  pub summed : t .sum ≡ total (notBlank xs)
+  pub lowest : t .least ≡ summary least (notBlank xs)
+  pub highest : t .greatest ≡ summary greatest (notBlank xs)
+
+-- a tally of n rows has at most n numbers, and none is above off scale: so its sum fits
+pub record Bounded (t : Tally) : Type 0 where
+  pub few : t .numbers ≤ t .rows
+  pub small : t .sum ≤ offScale * t .rows
+
+-- the least of one cell more; with no cell before it, that cell
+abbrev pub lesser : ℕ → ℕ → ℕ → ℕ
+lesser numbers lowest x = cond (eqb numbers 0) x (min x lowest)
+
+-- a tally with one cell more: a blank is only counted
+unfoldable pub added : Tally → ℕ → Tally
+added t x = record {
+  rows = t .rows + 1;
+  numbers = cond (eqb x blank) (t .numbers) (t .numbers + 1);
+  sum = t .sum + x;
+  least = cond (eqb x blank) (t .least) (lesser (t .numbers) (t .least) x);
+  greatest = max x (t .greatest);
+  off = eqb offScale x || t .off;
+}
+
+-- the aggregate that a tally gives
+abbrev pub tallySummary : Summary → Tally → ℕ
+tallySummary sum t = sumOf (t .numbers) (t .sum)
+tallySummary least t = t .least
+tallySummary greatest t = t .greatest
+
+unfoldable pub tallied : Aggregate → Tally → ℕ
+tallied count t = origin + t .rows
+tallied (over k c) t = cond (t .off) offScale (tallySummary k t)
+
+-- a tally after one row: its measured cell is added where the row passes, env the environment inside it
+unfoldable pub rowAdded : Operator → Env → Tally → Tally
+rowAdded op env t = cond (passing op env) (added t (measure (aggregateIn op) env)) t

@@ -1,0 +1,59 @@
+// Unit and Scan.
+ghost use mathlib.Core.Path.{_≡_};
+ghost use mathlib.Core.List.{map};
+ghost use Prim.Native.Nat.{_*_, _≤_};
+ghost use lib.ListN.{length, take};
+ghost use Rattle.algebra.specs.Lists.{upward};
+ghost use Rattle.reading.specs.TableSet.{columnsOf, rowsOf, cellAt, tableFrom, tableRows, tablesOf};
+ghost use Rattle.reading.specs.Tree.{operatorOf};
+ghost use Rattle.reporting.specs.Rows.{Gives};
+ghost use Rattle.reporting.specs.Evaluation.{leafGiven, leafWidth, leafMost};
+use reading::plan::Node;
+use reading::set::cell;
+use reading::set::columns_of;
+use reading::set::rows_of;
+use reading::set::table_cells;
+use reading::set::table_from;
+
+// Writes the first n cells of a table to the front.
+fn cells_in(cells: &mut [u32], from: &[u8], n: usize)
+    requires { ⌜ n ≤ length (now cells) ⌝ }
+    ensures { λ _. ⌜ take n (now (cells .exit)) ≡ map (cellAt (now (from .entry))) (upward n 0) ⌝ }
+{
+    let mut i = 0;
+    while i < n {
+        cells[i] = cell(from, i);
+        i += 1;
+    }
+}
+
+// The rows of table t, at the front.
+fn scan(set: &[u8], t: usize, cells: &mut [u32]) -> usize
+    requires { ⌜ rowsOf (tableFrom t (now set)) * columnsOf (tableFrom t (now set)) ≤ length (now cells) ⌝ }
+    ensures { λ r. ⌜ Gives (tableRows (tableFrom t (now (set .entry)))) (columnsOf (tableFrom t (now (set .entry)))) (rowsOf (tableFrom t (now (set .entry)))) r (now (cells .exit)) ⌝ }
+{
+    let table = table_from(set, t);
+    let rows = rows_of(table);
+    let n = rows * columns_of(table);
+    cells_in(cells, table_cells(set, t), n);
+    rows
+}
+
+// The rows of a node with no children, at the front of cells; a kind with children gives none.
+pub(crate) fn leaf(set: &[u8], node: Node, cells: &mut [u32]) -> usize
+    requires { ⌜ leafMost (tablesOf (now set)) (operatorOf node) * leafWidth (tablesOf (now set)) (operatorOf node) ≤ length (now cells) ⌝ }
+    ensures { λ r. ⌜ Gives (leafGiven (tablesOf (now (set .entry))) (operatorOf node)) (leafWidth (tablesOf (now (set .entry))) (operatorOf node)) (leafMost (tablesOf (now (set .entry))) (operatorOf node)) r (now (cells .exit)) ⌝ }
+{
+    let kind = node.kind;
+    if kind == 1 {
+        let t = node.arg as usize;
+        return scan(set, t, cells);
+    }
+    if kind == 0 {
+        return 1;
+    }
+    if kind < 15 {
+        return 0;
+    }
+    1
+}
