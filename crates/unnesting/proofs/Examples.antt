@@ -1,0 +1,23 @@
+-- The examples M1 to M9 of the paper, computed. Assumes nothing.
+use mathlib.Core.Path.{refl}
+use Rattle.algebra.specs.Cells.{compares, aggregate}
+use Rattle.algebra.specs.Plans.{truth, columns, gather, emit, act, joined, eval}
+use Rattle.algebra.specs.Places.{size, flatten, subtrees, modify, look}
+use Rattle.algebra.specs.Names.{unaryFree, free, closed, introduced}
+use Rattle.algebra.specs.Refusals.{bound, need, fields, once, inView, refusal, passes}
+use Rattle.algebra.specs.Rules.{ruleOf, unnest, rule}
+use Rattle.algebra.specs.Steps.{weight, attempt, after, smallest, run}
+use Rattle.algebra.specs.StayNotes.{sequencesOf, stays, noteAt}
+use Rattle.reading.specs.Bytes.{startsWith, allBelow}
+use Rattle.reading.specs.TableSet.{cellsOf, cellsAllowed, readTable, readFrom, readSet, tableFrom, tableRows}
+use Rattle.reading.specs.Plan.{listEnds, fieldsAllowed, testOf, nodeOf, nodeAt, nodesAllowed, readPlan}
+use Rattle.reading.specs.Tree.{operatorBy, treeAt, planAt, wholeTree}
+use Rattle.reading.specs.Encoding.{nodeBytes, planBytes}
+use Rattle.reading.specs.Check.{planRefusal, inputRefusal}
+use Rattle.reporting.specs.Report.{reportNumber}
+use Rattle.unnesting.specs.Unnest.{passedThrough, unnestNeed, unnestNumber}
+use Rattle.unnesting.specs.Examples.{clubSet, movedSet, clubPlan, crossPlan, emptyInner, Examples}
+
+pub examples : Examples
+unfolding compares aggregate truth columns gather emit act joined eval size flatten subtrees modify look unaryFree free closed introduced bound need fields once inView refusal passes ruleOf unnest rule weight attempt after smallest run sequencesOf stays noteAt startsWith allBelow cellsOf cellsAllowed readTable readFrom readSet tableFrom tableRows listEnds fieldsAllowed testOf nodeOf nodeAt nodesAllowed readPlan operatorBy treeAt planAt wholeTree nodeBytes planBytes planRefusal inputRefusal reportNumber passedThrough unnestNeed unnestNumber clubSet movedSet clubPlan crossPlan emptyInner
+examples = record { m1 = refl; m2 = refl; m3 = refl; m4 = refl; m5 = refl; m6 = (refl, refl); m7 = (refl, refl); m8 = (refl, refl, refl, (refl, refl), refl); m9 = (refl, refl, refl, refl) }

@@ -1,0 +1,11 @@
+pub mod BitLaws
+pub mod FreeLaws
+pub mod ByteLaws
+pub mod ImageLaws
+pub mod AllowedNodes
+pub mod Widths
+pub mod Demand3
+pub mod Unnest
+pub mod StayNote
+pub mod Examples
+pub mod Runs

@@ -1,0 +1,23 @@
+use Rattle.reading.proofs.FlagLaws.{adds-first}
+use borrow.Author.Needs.{needs}
+use Rattle.unnesting.proofs.free.local_at.Statement.{statement}
+use Rattle.unnesting.proofs.free.local_at.Tie as tie
+use Rattle.unnesting.proofs.free.local_at.Reads as reads
+use Rattle.unnesting.proofs.free.local_at.Lts as lts
+use Rattle.reading.proofs.view.add_columns.Reads as add-columns-reads
+use Rattle.reading.proofs.view.test_seen.Reads as test-seen-reads
+
+-- src/free.rt:200:9
+add-columns-requires : tie.Need-add-columns-requires
+add-columns-requires c κs = search needs
+
+-- src/free.rt:202:5
+test-seen-requires : tie.Need-test-seen-requires
+test-seen-requires c κs = search needs
+
+-- src/free.rt:196:1
+returns : tie.Need-returns
+returns c = c .test-seen .ensures .decides _ (adds-first (c .before .add-columns .ensures))
+
+pub local-at-spec : {M : Type 1} → statement M
+local-at-spec = tie.close (tie.spec add-columns-requires test-seen-requires returns)

@@ -1,0 +1,115 @@
+// A node's 24 bytes, and bytes written at a place.
+ghost use mathlib.Core.Path.{_≡_};
+ghost use Prim.Native.Nat.{_+_, _≤_};
+ghost use lib.ListN.{length};
+ghost use Rattle.reading.specs.Encoding.{markByte, numberBytes};
+ghost use Rattle.unnesting.specs.Images.{bytesWritten, image, testImage};
+use reading::plan::Node;
+use reading::plan::Test;
+
+fn mark_byte(mark: bool) -> u8
+    ensures { λ r. ⌜ r ≡ markByte mark ⌝ }
+{
+    if mark { 1 } else { 0 }
+}
+
+// The four bytes of a number that is held as a cell's word.
+fn number_bytes(number: u32) -> [u8; 4]
+    ensures { λ r. ⌜ r ≡ numberBytes number ⌝ }
+{
+    let code = (number as u64 + 2147483648) % 4294967296;
+    [
+        (code % 256) as u8,
+        (code / 256 % 256) as u8,
+        (code / 65536 % 256) as u8,
+        (code / 16777216) as u8,
+    ]
+}
+
+// A test's 8 bytes.
+fn test_image(negated: bool, test: Test) -> [u8; 8]
+    ensures { λ r. ⌜ r ≡ testImage negated test ⌝ }
+{
+    let mark = mark_byte(negated);
+    match test {
+        Test::Always => [0, 0, mark, 0, 0, 0, 0, 0],
+        Test::Columns {
+            comparison,
+            left,
+            right,
+        } => [1, comparison, mark, left, right, 0, 0, 0],
+        Test::Number {
+            comparison,
+            left,
+            number,
+        } => {
+            let code = number_bytes(number);
+            [
+                2,
+                comparison,
+                mark,
+                left,
+                code[0],
+                code[1],
+                code[2],
+                code[3],
+            ]
+        }
+    }
+}
+
+// A node's 24 bytes.
+fn node_image(node: Node) -> [u8; 24]
+    ensures { λ r. ⌜ r ≡ image node ⌝ }
+{
+    let l = node.list;
+    let test = node.test;
+    let t = test_image(node.negated, test);
+    [
+        node.kind,
+        node.arg,
+        node.id,
+        node.left,
+        node.right,
+        node.comparison,
+        node.column,
+        0,
+        node.listed,
+        l[0],
+        l[1],
+        l[2],
+        l[3],
+        l[4],
+        l[5],
+        l[6],
+        t[0],
+        t[1],
+        t[2],
+        t[3],
+        t[4],
+        t[5],
+        t[6],
+        t[7],
+    ]
+}
+
+// Writes bytes from a place on.
+pub(crate) fn write_bytes(out: &mut [u8], at: usize, bytes: &[u8])
+    requires { ⌜ at + length (now bytes) ≤ length (now out) ⌝ }
+    ensures { λ _. ⌜ now (out .exit) ≡ bytesWritten (now (out .entry)) at (now (bytes .entry)) ⌝ }
+{
+    let mut k = 0;
+    while k < bytes.len() {
+        out[at + k] = bytes[k];
+        k += 1;
+    }
+}
+
+// Writes a node's 24 bytes from a place on.
+pub(crate) fn write_node(out: &mut [u8], at: usize, node: Node)
+    requires { ⌜ at + 24 ≤ length (now out) ⌝ }
+    ensures { λ _. ⌜ (now (out .exit) ≡ bytesWritten (now (out .entry)) at (image node)) × (length (image node) ≡ 24) ⌝ }
+{
+    let bytes = node_image(node);
+    write_bytes(out, at, &bytes);
+}
