@@ -135,7 +135,7 @@ here-past n zero o below h g = absurd (omega arith)
 here-past n (suc i) o below h g = g i (omega arith)
 
 -- no rule fits past the last node
-modify-past : (k : Plan → Option Plan) (p : Plan) (i : ℕ) → size p ≤ i → modify k p i ≡ none
+pub modify-past : (k : Plan → Option Plan) (p : Plan) (i : ℕ) → size p ≤ i → modify k p i ≡ none
 unfolding modify size
 modify-past k (leaf x) i h = here-past 0 i _ _ h (λ j g. refl)
 modify-past k (one u p) i h = here-past (size p) i _ _ h (λ j g. rw (modify-past k p j g))

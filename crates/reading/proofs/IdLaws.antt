@@ -120,10 +120,6 @@ module _ {flags ids : List ℕ} (f : Flags flags ids) (x : ℕ) where
   pub flag-above : 256 ≤ x → {more : List ℕ} → ((k : ℕ) → member k more ≡ (eqb k x || member k ids)) → Flags flags more
   flag-above h {more} m = record { long = f .long; right = λ k l. rw (m k, ne-eqb k x (λ e. omega arith)) (f .right k l) }
 
--- no flag is set for no id
-pub flags-none : Flags (replicate 256 0) []
-flags-none = record { long = refl; right = λ k l. getD-replicate 256 k 0 0 l }
-
 -- ---- marking one run of ids after another
 
 module _ {flags xs : List ℕ} {r : Marked} (m : Marks flags xs r) where

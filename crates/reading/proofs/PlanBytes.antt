@@ -65,7 +65,7 @@ plan-known plan e =
 
 -- ---- a plan in parts of 24 bytes
 
-take-drop : (n : ℕ) (s : List ℕ) → s ≡ take n s ++ drop n s
+pub take-drop : (n : ℕ) (s : List ℕ) → s ≡ take n s ++ drop n s
 take-drop zero s = refl
 take-drop (suc n) [] = refl
 take-drop (suc n) (x ∷ s) = ap (_∷_ x) (take-drop n s)
@@ -107,7 +107,7 @@ module _ (plan : List ℕ) (known : PlanKnown plan) where
   unfolding nodeAt
   operator-at i h = let l : 30 + 24 * i ≤ length plan = omega (arith, known .long) in rw (le-leb (30 + 24 * i) (length plan) l)
 
-  node-at-bytes : (i : ℕ) → i < nodesOf plan → nodeBytes (operatorAt plan i) ≡ nodePart plan i
+  pub node-at-bytes : (i : ℕ) → i < nodesOf plan → nodeBytes (operatorAt plan i) ≡ nodePart plan i
   node-at-bytes i h = ap nodeBytes (operator-at i h) ∙ node-bytes (nodePart plan i) (part-long i h) (part-allowed i h)
 
   plan-start : plan ≡ planMark ++ (nodesOf plan ∷ drop 6 plan)

@@ -23,8 +23,8 @@ fn capped(x: usize) -> usize
 }
 
 // How many ids a list has: its length as written, but no more than there is room for.
-fn list_length(list: [u8; 7], listed: u8) -> usize
-    ensures { λ r. ⌜ (r ≡ length (take listed list)) × (r ≤ 7) ⌝ }
+pub fn list_length(list: [u8; 7], listed: u8) -> usize
+    ensures { λ r. ⌜ (r ≤ 7) × (r ≡ length (take listed list)) × (take r list ≡ take listed list) × (r ≡ min listed 7) ⌝ }
 {
     let n = listed as usize;
     if n < 7 { n } else { 7 }

@@ -10,6 +10,7 @@ ghost use Rattle.reading.specs.Plan.{nodesOf};
 ghost use Rattle.reading.specs.Tree.{formOf, nodeAggregate, operatorOf, planAt};
 ghost use Rattle.reading.specs.Flags.{Adds, Flagged, Sees, SeesOnce};
 ghost use Rattle.reading.specs.Nodes.{NamesSeen, RootSeen, TreeSeen, firstNames, innerColumns, listNames, ownColumns, partOf, secondNames, testNames};
+use crate::columns::list_length;
 use crate::flags::add_id;
 use crate::flags::add_ids;
 use crate::kinds::children_of;
@@ -61,18 +62,11 @@ pub fn test_seen(flags: [u8; 256], test: Test) -> bool
     }
 }
 
-// The length of a node's list: at most 7.
-fn list_length(listed: u8) -> usize
-    ensures { λ r. ⌜ r ≡ min listed 7 ⌝ }
-{
-    if listed < 7 { listed as usize } else { 7 }
-}
-
 // Whether a list's ids are flagged, and none stands twice: an id that was met loses its flag.
 fn list_seen(flags: [u8; 256], list: [u8; 7], listed: u8) -> bool
     ensures { λ r. ⌜ SeesOnce flags (take listed list) r ⌝ }
 {
-    let count = list_length(listed);
+    let count = list_length(list, listed);
     let mut left = flags;
     let mut j = 0;
     while j < count {
@@ -90,7 +84,7 @@ fn list_seen(flags: [u8; 256], list: [u8; 7], listed: u8) -> bool
 pub fn add_list(flags: [u8; 256], list: [u8; 7], listed: u8) -> [u8; 256]
     ensures { λ r. ⌜ Adds flags (take listed list) r ⌝ }
 {
-    let count = list_length(listed);
+    let count = list_length(list, listed);
     let mut marks = flags;
     let mut j = 0;
     while j < count {

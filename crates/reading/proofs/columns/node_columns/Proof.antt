@@ -79,7 +79,7 @@ returns-5 c =
     let a = c .before .before .before .before .before .before .args in
     let h = c .before .before .before .before .match .rest in
     let e = c .list-length .ensures in
-    rw (list-width (a .set .now) (a .node) (a .first) (a .second) (c .before .before .before .if1 .left) (c .before .before .if2 .taken) (h .0 .0 .0 .0 .1) (λ z. h .1 (inl z)), ← e .0)
+    rw (list-width (a .set .now) (a .node) (a .first) (a .second) (c .before .before .before .if1 .left) (c .before .before .if2 .taken) (h .0 .0 .0 .0 .1) (λ z. h .1 (inl z)), ← e .1)
     (within-cap (c .list-length .result) 33 (omega arith))
 
 -- src/columns.rt:34:1

@@ -10,7 +10,8 @@ use Rattle.reading.specs.Plan.{nodesOf}
 use Rattle.reading.specs.Flags.{Flags, Marks}
 use Rattle.reading.specs.Tree.{operatorAt}
 use Rattle.reading.specs.Nodes.{operatorNew, idsOf}
-use Rattle.reading.proofs.IdLaws.{flags-none, ids-more, ids-stay}
+use Rattle.reading.proofs.FlagLaws.{flags-none}
+use Rattle.reading.proofs.IdLaws.{ids-more, ids-stay}
 use Rattle.reading.proofs.ids.ids_once.Statement.{statement}
 use Rattle.reading.proofs.ids.ids_once.Tie as tie
 use Rattle.reading.proofs.ids.ids_once.Reads as reads

@@ -9,7 +9,7 @@ use Rattle.reading.specs.Plan.{nodesOf}
 use Rattle.reading.specs.Tree.{operatorAt, planAt, planOf, wholeTree}
 use Rattle.reading.specs.Nodes.{idsOf}
 use Rattle.reading.specs.declared.input.Checked.the-variants.{Accepted}
-use Rattle.reading.proofs.IdLaws.{flags-none}
+use Rattle.reading.proofs.FlagLaws.{flags-none}
 use Rattle.reading.proofs.Acceptance.{check-tree, check-11, check-12-once, check-12-view, check-13, check-14, check-passed}
 use borrow.Author.Needs.{needs}
 use Rattle.reading.proofs.input.check_tree.Statement.{statement}

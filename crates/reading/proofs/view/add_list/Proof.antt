@@ -9,7 +9,7 @@ use Rattle.reading.proofs.view.add_list.Statement.{statement}
 use Rattle.reading.proofs.view.add_list.Tie as tie
 use Rattle.reading.proofs.view.add_list.Reads as reads
 use Rattle.reading.proofs.view.add_list.Lts as lts
-use Rattle.reading.proofs.view.list_length.Reads as list-length-reads
+use Rattle.reading.proofs.columns.list_length.Reads as list-length-reads
 use Rattle.reading.proofs.view.place_of.Reads as place-of-reads
 
 abbrev Inv-loop : tie.InvT-loop

@@ -8,7 +8,7 @@ use Rattle.reading.proofs.view.list_seen.Statement.{statement}
 use Rattle.reading.proofs.view.list_seen.Tie as tie
 use Rattle.reading.proofs.view.list_seen.Reads as reads
 use Rattle.reading.proofs.view.list_seen.Lts as lts
-use Rattle.reading.proofs.view.list_length.Reads as list-length-reads
+use Rattle.reading.proofs.columns.list_length.Reads as list-length-reads
 use Rattle.reading.proofs.view.place_of.Reads as place-of-reads
 
 abbrev Inv-loop : tie.InvT-loop
@@ -40,7 +40,7 @@ array-read-if1 c = search needs
 -- src/view.rt:81:13
 returns : tie.Need-returns Inv-loop μ-loop
 returns c =
-    rw (list-part (c .before .before .before .before .before .args .listed) (c .before .before .before .before .before .args .t2) (c .before .before .before .before .before .good .1 .0 .1 .0 .1), sym (c .before .before .before .before .list-length .ensures))
+    rw (list-part (c .before .before .before .before .before .args .listed) (c .before .before .before .before .before .args .t2) (c .before .before .before .before .before .good .1 .0 .1 .0 .1), sym (c .before .before .before .before .list-length .ensures .3))
     (left-absent (c .before .before .before .loop .inv .2) (omega (arith, c .before .before .before .before .before .good .1 .0 .1 .0 .1)) (c .before .before .loop-test .taken) (c .before .place-of .result) (c .before .place-of .ensures .0) (c .before .place-of .ensures .1) (c .if1 .taken))
 
 -- src/view.rt:83:9
@@ -62,7 +62,7 @@ loop-again c = (omega arith, search needs, left-more (c .before .before .before 
 -- src/view.rt:72:1
 returns-2 : tie.Need-returns-2 Inv-loop μ-loop
 returns-2 c =
-    rw (list-part (c .before .before .before .args .listed) (c .before .before .before .args .t2) (c .before .before .before .good .1 .0 .1 .0 .1), sym (c .before .before .list-length .ensures))
+    rw (list-part (c .before .before .before .args .listed) (c .before .before .before .args .t2) (c .before .before .before .good .1 .0 .1 .0 .1), sym (c .before .before .list-length .ensures .3))
     (left-end (c .before .loop .inv .2) (omega (arith, c .before .before .before .good .1 .0 .1 .0 .1)) (omega arith))
 
 pub list-seen-spec : {M : Type 1} → statement M
