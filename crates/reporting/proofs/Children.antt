@@ -77,7 +77,7 @@ module _ (T : Tables) where
   unfolding subtrees size
   first-two b e f = record { sound = sound-left; room = omega (arith, total-append (region T) (subtrees e) (subtrees f)); smaller = omega arith }
 
-  single : (u : Unary) (p : Plan) → Single T (unaryNode u) (one u p) p
+  pub single : (u : Unary) (p : Plan) → Single T (unaryNode u) (one u p) p
   unfolding eval columns bound acted
   single u p = record { rows = λ env. refl; ids = refl; most = refl }
 

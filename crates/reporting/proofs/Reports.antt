@@ -1,5 +1,5 @@
 -- The reporting call's answer, end by end, and what an accepted input gives the evaluator. Assumes nothing.
-use Prim.Native.Nat.{ℕ, zero, suc, _*_, _≤_, _<_, min}
+use Prim.Native.Nat.{ℕ, zero, suc, _*_, _+_, _≤_, _<_, min}
 use mathlib.Core.Bool.{true, and-eq-true-iff}
 use mathlib.Core.Path.{_≡_, refl, sym, ap, ap₂, _∙_}
 use mathlib.Core.List.{List, _++_, map, map-append}
@@ -37,7 +37,7 @@ answer-accepted : (z t n c tables nodes cells : ℕ) → answer z t n c ≡ Acce
 answer-accepted zero t n c tables nodes cells e = (refl, cc)
 answer-accepted (suc z) t n c tables nodes cells e = let z : _≡_ {A = ℕ} 0 1 = cc in absurd (omega arith)
 
-or-next : (a b : ℕ) → orNext a b ≡ 0 → (a ≡ 0) × (b ≡ 0)
+pub or-next : (a b : ℕ) → orNext a b ≡ 0 → (a ≡ 0) × (b ≡ 0)
 or-next zero b e = (refl, e)
 or-next (suc a) b e = absurd (omega arith)
 
@@ -131,7 +131,8 @@ pub whole-input : (set plan : List ℕ) → inputRefusal set plan ≡ 0 → whol
 unfolding inputRefusal
 whole-input set plan a = plan-passed set plan (or-next (setNumber (readSet set)) (planRefusal set plan) a .1) .whole
 
-pub ready : (set plan : List ℕ) (cells : ℕ) → inputRefusal set plan ≡ 0 → need (tablesOf set) (planOf plan) ≤ cells → Ready (tablesOf set) (planOf plan) cells 256
+-- the need has 4,096 cells more than the regions
+pub ready : (set plan : List ℕ) (cells : ℕ) → inputRefusal set plan ≡ 0 → need (tablesOf set) (planOf plan) ≤ cells + 4096 → Ready (tablesOf set) (planOf plan) cells 256
 unfolding need once
 ready set plan cells a h =
     let u = unrefused set plan a in

@@ -2,7 +2,7 @@
 use Prim.Native.Nat.{ℕ, zero, suc, _+_, _*_, _-_, _≤_, _<_, min}
 use mathlib.Core.Bool.{Bool, true, false}
 use mathlib.Core.Path.{_≡_, refl, ap, ap₂, sym, _∙_, subst}
-use mathlib.Core.List.{List, [], _++_, append-nil}
+use mathlib.Core.List.{List, [], _∷_, _++_, append-nil}
 use native.Mathlib.Omega.{arith}
 use native.Mathlib.Decide.{decLt, ℕ-discrete}
 use native.Mathlib.Nat.{zero-mul, mul-le-mul, le-trans}
@@ -12,8 +12,8 @@ use borrow.Rule.Slice.PartMut.{putMid, postOf}
 use lib.Seq.{take-add, length-take-le}
 use borrow.Author.Tests.{lt-ltb, le-ltb}
 use Rattle.algebra.specs.Lists.{flatMap}
-use Rattle.algebra.specs.Plans.{Row, Env, Tables, unit, Unary, Binary, Plan, leaf, one, two, columns, eval}
-use Rattle.algebra.specs.Places.{Operator, size, subtrees}
+use Rattle.algebra.specs.Plans.{Row, Env, Tables, unit, Unary, distinct, Binary, Plan, leaf, one, two, columns, eval}
+use Rattle.algebra.specs.Places.{Operator, unaryNode, size, subtrees}
 use Rattle.algebra.specs.Names.{introduced}
 use Rattle.algebra.specs.Refusals.{bound, width, region, need}
 use Rattle.algebra.specs.Rules.{outside}
@@ -21,19 +21,21 @@ use Rattle.algebra.proofs.Places.{size-positive}
 use Rattle.reading.specs.TableSet.{tablesOf, readSet}
 use Rattle.reading.specs.Plan.{nodesOf}
 use Rattle.reading.specs.Tree.{planAt, planOf, wholeTree}
-use Rattle.reading.specs.Check.{setNumber, planRefusal, inputRefusal, checkOf}
+use Rattle.reading.specs.Nodes.{arity}
+use Rattle.reading.specs.Check.{orNext, setNumber, planRefusal, inputRefusal, checkOf}
 use Rattle.reading.specs.declared.input.Checked.the-variants.{Refused}
 use Rattle.reading.proofs.Trees.{plan-past, plan-case, firstTree, secondTree}
 use Rattle.reading.proofs.Places.{whole-size}
-use Rattle.reporting.specs.Rows.{chunk, envOf, Gives}
+use Rattle.reporting.specs.Rows.{chunk, envOf, Gives, acted, actedColumns}
 use Rattle.reporting.specs.Evaluation.{Sound, regions, Ready}
-use Rattle.reporting.specs.Report.{placeRows, placeColumns, rowsNumber, RowsGiven}
+use Rattle.reporting.specs.Report.{scratchNumber, treeCells, rowsNumber, rowsLeft, RowsGiven}
 use Rattle.reporting.specs.declared.answer.Report.{Report}
 use Rattle.reporting.proofs.Chunks.{times-suc, length-chunk}
 use Rattle.reporting.proofs.Soundness.{sound-child, sound-left, sound-right, sound-width, sound-bound}
 use Rattle.reporting.proofs.Emits.{tail-part}
-use Rattle.reporting.proofs.Children.{region-within, double-room}
-use Rattle.reporting.proofs.Reports.{answer-refused, whole-input, zeros-outside, ready}
+use Rattle.reporting.proofs.Children.{region-within, double-room, Single, single}
+use Rattle.reporting.proofs.Arms.{kid-of, unary-arm}
+use Rattle.reporting.proofs.Reports.{answer-refused, or-next, whole-input, zeros-outside, ready}
 
 module _ (plan : List ℕ) (Q : Plan → Type 0) (child : (u : Unary) (p : Plan) → Q (one u p) → Q p) (left : (b : Binary) (e f : Plan) → Q (two b e f) → Q e)
     (right : (b : Binary) (e f : Plan) → Q (two b e f) → Q f)
@@ -80,7 +82,7 @@ module _ (T : Tables) (cells : ℕ) where
   unfolding subtrees columns bound introduced
   unit-fitting = record { good = record { narrowAll = refl; lowAll = refl; small = refl }; fits = omega arith }
 
-pub ready-at : (set plan : List ℕ) (cells : ℕ) → inputRefusal set plan ≡ 0 → need (tablesOf set) (planOf plan) ≤ cells → (i : ℕ) → Ready (tablesOf set) (planAt plan i) cells 256
+pub ready-at : (set plan : List ℕ) (cells : ℕ) → inputRefusal set plan ≡ 0 → need (tablesOf set) (planOf plan) ≤ cells + 4096 → (i : ℕ) → Ready (tablesOf set) (planAt plan i) cells 256
 ready-at set plan cells a h i =
     let T : Tables = tablesOf set in
     let r = ready set plan cells a h in
@@ -91,6 +93,11 @@ ready-at set plan cells a h i =
       | no l ↦ subst (Fitting T cells) (sym (plan-past plan i (omega arith))) (unit-fitting T cells)
     ] in
     record { sound = f .good; room = f .fits; bound = refl }
+
+-- what the need has besides the regions
+pub spare : (T : Tables) (p : Plan) → 4096 ≤ need T p
+unfolding need
+spare T p = omega arith
 
 -- ---- what the evaluator leaves at a place
 
@@ -107,64 +114,126 @@ pub record EvaluatedAt (T : Tables) (p : Plan) (cells : List ℕ) (room rows col
   pub inside : rows * columns ≤ room
   pub front : take (rows * columns) cells ≡ flatMap (λ (row : Row). row) (eval T p outside)
 
-pub evaluated-at : (T : Tables) (p : Plan) (cells : List ℕ) (room rows columns : ℕ) → Ready T p room 256 → Gives (eval T p (envOf (replicate 256 0))) (width T p) (bound T p) rows cells
-    → columns ≡ min (width T p) 33 → EvaluatedAt T p cells room rows columns
-evaluated-at T p cells room rows columns r g c =
-    let thin : width T p ≤ 32 = sound-width (r .sound) in
-    let few : bound T p ≤ 4096 = sound-bound (r .sound) in
-    let w : columns ≡ width T p = omega arith in
+pub evaluated-at : (T : Tables) (p : Plan) (cells : List ℕ) (room rows columns : ℕ) → width T p ≤ 32 → bound T p ≤ 4096 → region T p ≤ room
+    → Gives (eval T p (envOf (replicate 256 0))) (width T p) (bound T p) rows cells → columns ≡ width T p → EvaluatedAt T p cells room rows columns
+evaluated-at T p cells room rows columns thin few fits g w =
     let is : chunk rows (width T p) cells ≡ eval T p outside = g .is ∙ ap (λ (env : Env). eval T p env) zeros-outside in
     let low : rows * columns ≤ region T p = mul-le-mul (g .few) (omega arith) in
     record {
       rowsAre = sym (length-chunk rows (width T p) cells) ∙ ap length is;
       columnsAre = w;
       most = le-trans low (mul-le-mul few thin);
-      inside = omega (arith, region-within T p, r .room);
+      inside = le-trans low fits;
       front = sym (flat-cells rows columns cells) ∙ ap (λ (n : ℕ). flatMap (λ (row : Row). row) (chunk rows n cells)) w ∙ ap (flatMap (λ (row : Row). row)) is;
     }
 
+-- .. of the tree itself
+pub tree-evaluated : (T : Tables) (p : Plan) (cells : List ℕ) (room rows columns : ℕ) → Ready T p room 256 → Gives (eval T p (envOf (replicate 256 0))) (width T p) (bound T p) rows cells
+    → columns ≡ min (width T p) 33 → EvaluatedAt T p cells room rows columns
+tree-evaluated T p cells room rows columns r g c =
+    let thin : width T p ≤ 32 = sound-width (r .sound) in
+    evaluated-at T p cells room rows columns thin (sound-bound (r .sound)) (omega (arith, region-within T p, r .room)) g (omega arith)
+
+-- .. of a Distinct of one column over it, whose own rows were left from cell 4,096 on
+module _ (T : Tables) (p : Plan) (id : ℕ) (op : Operator) (e : op ≡ unaryNode (distinct (id ∷ []))) where
+  abbrev keys : Plan
+  keys = one (distinct (id ∷ [])) p
+
+  keys-single : Single T op keys p
+  keys-single = subst (λ (o : Operator). Single T o keys p) (sym e) (single T (distinct (id ∷ [])) p)
+
+  pub keys-arity : arity op ≡ 1
+  keys-arity = ap arity e
+
+  pub keys-room : (m : ℕ) → m ≤ 4096 → m * length (actedColumns op (columns T p)) ≤ 4096
+  keys-room m h = rw e (omega arith)
+
+  pub keys-evaluated : (scratch ys cells : List ℕ) (m rows j : ℕ) → 4096 ≤ length scratch → Ready T p (length ys) 256
+      → Gives (eval T p (envOf (replicate 256 0))) (width T p) (bound T p) m ys
+      → Gives (acted op (columns T p) (envOf (replicate 256 0)) (chunk m (width T p) (drop 4096 (putMid 4096 j scratch ys)))) (length (actedColumns op (columns T p))) m rows cells
+      → EvaluatedAt T keys cells (length scratch) rows 1
+  unfolding columns bound
+  keys-evaluated scratch ys cells m rows j h r g k =
+      evaluated-at T keys cells (length scratch) rows 1 (omega arith) (sound-bound (r .sound)) (omega (arith, sound-bound (r .sound)))
+      (unary-arm keys-single 4096 j scratch h (kid-of r g) k) refl
+
 -- ---- the ends of the call
 
-module _ (set plan : List ℕ) (place : ℕ) (scratch : List ℕ) (r : Report) where
-  abbrev RefusedBy : ℕ → Type 0
-  RefusedBy z = (r .refusal ≡ z) × (r .rows ≡ 0) × (r .columns ≡ 0)
+-- nothing is behind all of the cells
+all-left : (scratch : List ℕ) → scratch ++ replicate (length scratch - length scratch) 0 ≡ scratch
+all-left scratch = let z : length scratch - length scratch ≡ 0 = omega arith in rw z (append-nil scratch)
 
-  rows-refused : (z : ℕ) → 0 < z → inputRefusal set plan ≡ z → RefusedBy z → RowsGiven set plan place scratch scratch r
+module _ (set plan scratch : List ℕ) where
+  -- the number, and what it leaves of scratch where the rows are still to be found
+  abbrev Turned : ℕ → List ℕ → Type 0
+  Turned number scratch′ = (number ≡ rowsNumber set plan (length scratch)) × (scratch′ ≡ rowsLeft (inputRefusal set plan) (scratchNumber set plan (length scratch)) scratch scratch)
+
+  turned-by : (z number : ℕ) → inputRefusal set plan ≡ z → z ≡ number → 0 < z → Turned number scratch
   unfolding rowsNumber
-  rows-refused zero h e k = absurd (omega arith)
-  rows-refused (suc z) h e k = record { number = rw e (k .0); rows = rw e (k .1); columns = rw e (k .2); cells = rw e }
+  turned-by zero number e n h = absurd (omega arith)
+  turned-by (suc z) number e n h = (rw e (sym n), rw e)
 
-  pub rows-turned-back : (number : ℕ) → checkOf set plan ≡ Refused number → RefusedBy number → RowsGiven set plan place scratch scratch r
+  pub turned-input : (number : ℕ) → checkOf set plan ≡ Refused number → Turned number scratch
   unfolding checkOf
-  rows-turned-back number e k =
-      let (f, p) = answer-refused (inputRefusal set plan) _ _ _ number e in
-      let q : 0 < number = omega arith in
-      rows-refused number q f k
+  turned-input number e = let (f, p) = answer-refused (inputRefusal set plan) _ _ _ number e in turned-by (inputRefusal set plan) number refl f p
 
   module _ (a : inputRefusal set plan ≡ 0) where
-    pub rows-short : (scratch′ : List ℕ) → length scratch < need (tablesOf set) (planOf plan) → RefusedBy 16 → scratch′ ≡ replicate (length scratch) 0 → RowsGiven set plan place scratch scratch′ r
+    pub turned-short : (scratch′ : List ℕ) → length scratch < need (tablesOf set) (planOf plan) → scratch′ ≡ replicate (length scratch) 0 → Turned 16 scratch′
     unfolding rowsNumber
-    rows-short scratch′ h k c =
-        let e : ltb (length scratch) (need (tablesOf set) (planOf plan)) ≡ true = lt-ltb (length scratch) (need (tablesOf set) (planOf plan)) h in
-        record { number = rw (a, e) (k .0); rows = rw (a, e) (k .1); columns = rw (a, e) (k .2); cells = rw (a, e) c }
+    turned-short scratch′ h c = let e = lt-ltb (length scratch) (need (tablesOf set) (planOf plan)) h in (rw (a, e), rw (a, e) c)
 
-    pub rows-done : (scratch′ : List ℕ) → need (tablesOf set) (planOf plan) ≤ length scratch → r .refusal ≡ 0 → r .rows ≡ length (placeRows set plan place) → r .columns ≡ length (placeColumns set plan place)
-        → scratch′ ≡ flatMap (λ (row : Row). row) (placeRows set plan place) ++ replicate (length scratch - length (flatMap (λ (row : Row). row) (placeRows set plan place))) 0
-        → RowsGiven set plan place scratch scratch′ r
+    pub turned-none : need (tablesOf set) (planOf plan) ≤ length scratch → Turned 0 scratch
     unfolding rowsNumber
-    rows-done scratch′ h n m w c =
+    turned-none h = let e = le-ltb (length scratch) (need (tablesOf set) (planOf plan)) h in (rw (a, e), rw (a, e) (sym (all-left scratch)))
+
+  -- a call that is not turned back
+  pub not-turned : rowsNumber set plan (length scratch) ≡ 0 → (inputRefusal set plan ≡ 0) × (need (tablesOf set) (planOf plan) ≤ length scratch)
+  unfolding rowsNumber
+  not-turned e =
+      let (a, s) = or-next (inputRefusal set plan) _ e in (
+        a,
+        elim (decLt (length scratch) (need (tablesOf set) (planOf plan))) [
+          | yes l ↦ let t = lt-ltb (length scratch) (need (tablesOf set) (planOf plan)) l in let z : _≡_ {A = ℕ} 16 0 = rw t at s in absurd (omega arith)
+          | no l ↦ omega arith
+        ],
+      )
+
+  module _ (p : Plan) (r : Report) where
+    -- one that is
+    rows-turned-by : (number : ℕ) (scratch′ : List ℕ) (z s : ℕ) → inputRefusal set plan ≡ z → scratchNumber set plan (length scratch) ≡ s → number ≡ orNext z s → scratch′ ≡ rowsLeft z s scratch scratch
+        → (number ≡ 0 → ⊥) → (r .refusal ≡ number) × (r .rows ≡ 0) × (r .columns ≡ 0) → RowsGiven set plan p scratch scratch′ r
+    unfolding rowsNumber
+    rows-turned-by number scratch′ zero zero e f n c l k = absurd (l n)
+    rows-turned-by number scratch′ zero (suc s) e f n c l k = record { number = rw (e, f) (k .0 ∙ n); rows = rw (e, f) (k .1); columns = rw (e, f) (k .2); cells = rw (e, f) c }
+    rows-turned-by number scratch′ (suc z) s e f n c l k = record { number = rw e (k .0 ∙ n); rows = rw e (k .1); columns = rw e (k .2); cells = rw e c }
+
+    pub rows-turned : (number : ℕ) (scratch′ : List ℕ) → Turned number scratch′ → (number ≡ 0 → ⊥) → (r .refusal ≡ number) × (r .rows ≡ 0) × (r .columns ≡ 0)
+        → RowsGiven set plan p scratch scratch′ r
+    unfolding rowsNumber
+    rows-turned number scratch′ t l k = rows-turned-by number scratch′ (inputRefusal set plan) (scratchNumber set plan (length scratch)) refl refl (t .0) (t .1) l k
+
+    -- the rows stand in front of zeros
+    pub rows-done : (cells scratch′ : List ℕ) (rows columns : ℕ) → inputRefusal set plan ≡ 0 → need (tablesOf set) (planOf plan) ≤ length scratch → length cells ≡ length scratch
+        → EvaluatedAt (tablesOf set) p cells (length scratch) rows columns → (r .refusal ≡ 0) × (r .rows ≡ rows) × (r .columns ≡ columns)
+        → scratch′ ≡ take (rows * columns) cells ++ replicate (length cells - rows * columns) 0 → RowsGiven set plan p scratch scratch′ r
+    unfolding rowsNumber
+    rows-done cells scratch′ rows columns a h l v k c =
         let e : ltb (length scratch) (need (tablesOf set) (planOf plan)) ≡ false = le-ltb (length scratch) (need (tablesOf set) (planOf plan)) h in
-        record { number = rw (a, e) n; rows = rw (a, e) m; columns = rw (a, e) w; cells = rw (a, e) c }
+        let u : ℕ = rows * columns in
+        let fit : u ≤ length cells = omega (arith, v .inside) in
+        let n : u ≡ length (treeCells set p) = sym (length-take-le u cells fit) ∙ ap length (v .front) in
+        record {
+          number = rw (a, e) (k .0);
+          rows = rw (a, e) (k .1 ∙ v .rowsAre);
+          columns = rw (a, e) (k .2 ∙ v .columnsAre);
+          cells = rw (a, e) (c ∙ ap₂ (λ (front : List ℕ) (m : ℕ). front ++ replicate m 0) (v .front) (ap₂ _-_ l n));
+        }
 
 -- the front of the cells, after the part behind it was lent to be cleared
-pub front-kept : (T : Tables) (p : Plan) (cells last : List ℕ) (room rows columns : ℕ) → EvaluatedAt T p cells room rows columns → length cells ≡ room
-    → last ≡ replicate (length (take (length cells - rows * columns) (drop (rows * columns) cells))) 0
-    → putMid (rows * columns) (length cells - rows * columns) cells last ≡ flatMap (λ (row : Row). row) (eval T p outside) ++ replicate (room - length (flatMap (λ (row : Row). row) (eval T p outside))) 0
-front-kept T p cells last room rows columns e l k =
-    let u : ℕ = rows * columns in
-    let fit : u ≤ length cells = omega (arith, e .inside) in
-    let n : u ≡ length (flatMap (λ (row : Row). row) (eval T p outside)) = sym (length-take-le u cells fit) ∙ ap length (e .front) in
+pub front-kept : (u : ℕ) (cells last : List ℕ) → u ≤ length cells → last ≡ replicate (length (take (length cells - u) (drop u cells))) 0
+    → putMid u (length cells - u) cells last ≡ take u cells ++ replicate (length cells - u) 0
+front-kept u cells last fit k =
     let long : length (drop u cells) ≡ length cells - u = length-drop u cells in
     let none : postOf u (length cells - u) cells ≡ [] = drop-of-length-le (drop u cells) {i = length cells - u} (omega arith) in
-    let part : length (take (length cells - u) (drop u cells)) ≡ room - u = ap length (tail-part u cells) ∙ long ∙ ap (λ (m : ℕ). m - u) l in
-    ap₂ _++_ (e .front) (ap (λ (z : List ℕ). last ++ z) none ∙ append-nil last ∙ k ∙ ap (λ (m : ℕ). replicate m 0) (part ∙ ap (λ (m : ℕ). room - m) n))
+    let part : length (take (length cells - u) (drop u cells)) ≡ length cells - u = ap length (tail-part u cells) ∙ long in
+    ap (λ (z : List ℕ). take u cells ++ z) (ap (λ (z : List ℕ). last ++ z) none ∙ append-nil last ∙ k ∙ ap (λ (m : ℕ). replicate m 0) part)

@@ -7,11 +7,11 @@ use lib.Dec.{ltb}
 use lib.IntN.{ℤ, pos, _-ℤ_}
 use lib.ListN.{length, drop, replicate}
 use Rattle.algebra.specs.Lists.{if_then_else_, flatMap}
-use Rattle.algebra.specs.Plans.{Row, columns, eval}
+use Rattle.algebra.specs.Plans.{Row, Plan, columns, eval}
 use Rattle.algebra.specs.Refusals.{need}
 use Rattle.algebra.specs.Rules.{outside}
 use Rattle.reading.specs.TableSet.{tablesOf}
-use Rattle.reading.specs.Tree.{planAt, planOf}
+use Rattle.reading.specs.Tree.{planOf}
 use Rattle.reading.specs.Check.{orNext, inputRefusal}
 use Rattle.reporting.specs.declared.answer.Report.{Report}
 
@@ -79,27 +79,28 @@ pub record Reported (set plan : List ℕ) (out out′ : List ℤ) (scratch scrat
   pub output : out′ ≡ outputAfter (reportNumber set plan (length out) (length scratch)) (reportCodes set plan) out
   pub cleared : scratch′ ≡ scratchAfter (inputRefusal set plan) scratch
 
--- ---- the rows of the tree at a place, for the layer above
+-- ---- the rows of a tree, for the layer above
 
 -- nested in no row; of a closed subplan these are its rows wherever it stands
-abbrev pub placeRows : List ℕ → List ℕ → ℕ → List Row
-placeRows set plan place = eval (tablesOf set) (planAt plan place) outside
+abbrev pub treeRows : List ℕ → Plan → List Row
+treeRows set p = eval (tablesOf set) p outside
 
-abbrev pub placeColumns : List ℕ → List ℕ → ℕ → List ℕ
-placeColumns set plan place = columns (tablesOf set) (planAt plan place)
+abbrev pub treeCells : List ℕ → Plan → List ℕ
+treeCells set p = flatMap (λ row. row) (treeRows set p)
 
 -- 1 to 14, then 16
 unfoldable pub rowsNumber : List ℕ → List ℕ → ℕ → ℕ
 rowsNumber set plan scratchRoom = orNext (inputRefusal set plan) (scratchNumber set plan scratchRoom)
 
--- Scratch by the input's number and by 16's: untouched after 1 to 14, all zero after 16, else the cells row by row with zeros behind them.
+-- Scratch by the input's number and by 16's: untouched after 1 to 14, all zero after 16, else the cells with zeros behind them.
 abbrev pub rowsLeft : ℕ → ℕ → List ℕ → List ℕ → List ℕ
 rowsLeft (suc input) short cells scratch = scratch
 rowsLeft zero (suc short) cells scratch = replicate (length scratch) 0
 rowsLeft zero zero cells scratch = cells ++ replicate (length scratch - length cells) 0
 
-pub record RowsGiven (set plan : List ℕ) (place : ℕ) (scratch scratch′ : List ℕ) (r : Report) : Type 0 where
+-- the rows of a tree p, over the tables of a set and in the scratch that a plan needs
+pub record RowsGiven (set plan : List ℕ) (p : Plan) (scratch scratch′ : List ℕ) (r : Report) : Type 0 where
   pub number : r .refusal ≡ rowsNumber set plan (length scratch)
-  pub rows : r .rows ≡ countAfter (rowsNumber set plan (length scratch)) (length (placeRows set plan place))
-  pub columns : r .columns ≡ countAfter (rowsNumber set plan (length scratch)) (length (placeColumns set plan place))
-  pub cells : scratch′ ≡ rowsLeft (inputRefusal set plan) (scratchNumber set plan (length scratch)) (flatMap (λ row. row) (placeRows set plan place)) scratch
+  pub rows : r .rows ≡ countAfter (rowsNumber set plan (length scratch)) (length (treeRows set p))
+  pub columns : r .columns ≡ countAfter (rowsNumber set plan (length scratch)) (length (columns (tablesOf set) p))
+  pub cells : scratch′ ≡ rowsLeft (inputRefusal set plan) (scratchNumber set plan (length scratch)) (treeCells set p) scratch

@@ -5,12 +5,12 @@ ghost use lib.ListN.{length, drop};
 ghost use Rattle.reading.specs.Tree.{operatorOf};
 ghost use Rattle.reading.specs.Nodes.{arity};
 ghost use Rattle.reporting.specs.Rows.{chunk, envOf, Gives, acted, actedColumns};
-use crate::columns::list_length;
 use crate::group::group;
 use crate::select::project;
 use crate::select::select;
 use crate::whole::distinct_front;
 use crate::whole::sort_by;
+use reading::columns::list_length;
 use reading::plan::Node;
 
 // Select, Project, Distinct, Group, Sort: of the child's m rows at `own`, at the front.

@@ -13,6 +13,7 @@ ghost use Rattle.reporting.specs.Columns.{columnsWay, ownColumns};
 ghost use Rattle.reporting.specs.Evaluation.{Sound};
 use reading::bound::bound_at;
 use reading::columns::columns_at;
+use reading::columns::list_length;
 use reading::plan::Node;
 use reading::plan::node_at;
 use reading::set::columns_of;
@@ -29,14 +30,6 @@ pub(crate) fn region_at(set: &[u8], plan: &[u8], i: usize) -> usize
 }
 
 // ---- A node's own columns
-
-// How many ids a list has: its length as written, but no more than there is room for.
-pub(crate) fn list_length(list: [u8; 7], listed: u8) -> usize
-    ensures { λ r. ⌜ (r ≤ 7) × (r ≡ length (take listed list)) × (take r list ≡ take listed list) ⌝ }
-{
-    let n = listed as usize;
-    if n < 7 { n } else { 7 }
-}
 
 // Copies ids to the front.
 fn copy_ids(ids: &mut [u8], from: &[u8])

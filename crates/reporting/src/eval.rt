@@ -50,7 +50,7 @@ fn emitted_width(node: Node, ids: &[u8], jds: &[u8]) -> usize
 // ---- outside of the cycle: nodes whose children's rows stand in cells
 
 // A node with one child, at place `left`, whose m rows stand at `own`.
-fn unary_at(
+pub(crate) fn unary_at(
     set: &[u8],
     plan: &[u8],
     left: usize,

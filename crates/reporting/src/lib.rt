@@ -9,7 +9,7 @@ mod eval;
 mod gather;
 mod group;
 mod leaf;
-mod output;
+pub mod output;
 pub mod report;
 mod rows;
 mod select;

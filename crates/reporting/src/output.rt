@@ -27,7 +27,7 @@ pub(crate) fn write_codes(cells: &[u32], out: &mut [i32], n: usize)
 }
 
 // Zero in each cell.
-pub(crate) fn clear(cells: &mut [u32])
+pub fn clear(cells: &mut [u32])
     ensures { λ _. ⌜ now (cells .exit) ≡ replicate (length (now (cells .entry))) 0 ⌝ }
 {
     let mut i = 0;

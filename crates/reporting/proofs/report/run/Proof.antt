@@ -23,7 +23,7 @@ slice-aggregate-eval c = search needs
 
 -- src/report.rt:35:9
 eval-requires : tie.Need-eval-requires
-eval-requires c κs = ready (c .before .before .before .before .before .args .set .now) (c .before .before .before .before .before .args .plan .now) _ (c .before .before .before .before .before .pre .0) (c .before .before .before .before .before .pre .1)
+eval-requires c κs = ready (c .before .before .before .before .before .args .set .now) (c .before .before .before .before .before .args .plan .now) _ (c .before .before .before .before .before .pre .0) (omega (arith, c .before .before .before .before .before .pre .1))
 
 -- src/report.rt:36:9
 columns-at-requires : tie.Need-columns-at-requires
