@@ -35,7 +35,7 @@ pub input-parts : (set plan : List ℕ) → inputRefusal set plan ≡ 0 → (set
 unfolding inputRefusal
 input-parts set plan e = or-next (setNumber (readSet set)) (planRefusal set plan) e
 
-input-from : (set plan : List ℕ) → setNumber (readSet set) ≡ 0 → planRefusal set plan ≡ 0 → inputRefusal set plan ≡ 0
+pub input-from : (set plan : List ℕ) → setNumber (readSet set) ≡ 0 → planRefusal set plan ≡ 0 → inputRefusal set plan ≡ 0
 unfolding inputRefusal
 input-from set plan e f = rw (e, f)
 

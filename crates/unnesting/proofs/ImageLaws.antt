@@ -11,6 +11,7 @@ use lib.Seq.{take-suc, drop-cons, set-at, length-take-le, take-all}
 use Rattle.algebra.specs.Plans.{test, select, project, group, cross, semi, pair}
 use Rattle.algebra.specs.Places.{unaryNode, binaryNode}
 use Rattle.reading.specs.Tree.{comparisonOf, aggregateOf, formOf}
+use Rattle.reading.proofs.PlanBytes.{take-drop}
 use Rattle.reading.specs.Encoding.{markByte, fieldBytes, listBytes, testBytes, nodeBytes}
 use Rattle.reading.specs.declared.plan.Test.{Test}
 use Rattle.reading.specs.declared.plan.Test.the-variants.{Always, Columns, Number}
@@ -20,18 +21,13 @@ use Rattle.unnesting.specs.Images.{testImage, image, plainNode, projectN
 
 -- ---- bytes, one by one
 
-take-drop : (n : ℕ) (s : List ℕ) → take n s ++ drop n s ≡ s
-take-drop zero s = refl
-take-drop (suc n) [] = refl
-take-drop (suc n) (x ∷ s) = ap (λ (r : List ℕ). x ∷ r) (take-drop n s)
-
 -- k of the bytes are written
 abbrev pub partWritten : List ℕ → ℕ → List ℕ → ℕ → List ℕ
 partWritten out at bytes k = take at out ++ (take k bytes ++ drop (at + k) out)
 
 module _ (out : List ℕ) (at : ℕ) (bytes : List ℕ) (fits : at + length bytes ≤ length out) where
   pub written-none : out ≡ partWritten out at bytes 0
-  written-none = let z : at + 0 ≡ at = omega arith in rw z (sym (take-drop at out))
+  written-none = let z : at + 0 ≡ at = omega arith in rw z (take-drop at out)
 
   pub written-next : (k : ℕ) → k < length bytes → set (partWritten out at bytes k) (at + k) (getD bytes k 0) ≡ partWritten out at bytes (k + 1)
   written-next k h =

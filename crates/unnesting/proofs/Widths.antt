@@ -99,7 +99,7 @@ module _ (T : Tables) (tables : (t : ℕ) → Wide (T .width t) (T .rows t)) whe
       (λ l k. emit-wide b (columns T e) (columns T f) l (bind (columns T e) l env) _ k (eval-wide f (around (nested b) env (bind (columns T e) l env))))
 
 -- the rows of a set's tables
-table-wide : (set : List ℕ) (t : ℕ) → Wide (tablesOf set .width t) (tablesOf set .rows t)
+pub table-wide : (set : List ℕ) (t : ℕ) → Wide (tablesOf set .width t) (tablesOf set .rows t)
 unfolding tableRows
 table-wide set t =
     let table = tableFrom t set in

@@ -1,7 +1,13 @@
 pub mod Ids
 pub mod Frees
 pub mod Images
+pub mod Links
+pub mod Shapes
+pub mod Sequences
+pub mod Counts
 pub mod Unnest
+pub mod Attempts
 pub mod StayNote
+pub mod Notes
 pub mod Demand3
 pub mod Examples

@@ -3,7 +3,7 @@ ghost use mathlib.Core.Path.{_≡_};
 ghost use Prim.Native.Nat.{_+_, _≤_};
 ghost use lib.ListN.{length};
 ghost use Rattle.reading.specs.Encoding.{markByte, numberBytes};
-ghost use Rattle.unnesting.specs.Images.{bytesWritten, image, testImage};
+ghost use Rattle.unnesting.specs.Images.{bytesWritten, image, plainNode, testImage};
 use reading::plan::Node;
 use reading::plan::Test;
 
@@ -91,6 +91,35 @@ fn node_image(node: Node) -> [u8; 24]
         t[6],
         t[7],
     ]
+}
+
+// A node with no list.
+pub(crate) fn plain_node(
+    kind: u8,
+    arg: u8,
+    id: u8,
+    left: u8,
+    right: u8,
+    comparison: u8,
+    column: u8,
+    negated: bool,
+    test: Test,
+) -> Node
+    ensures { λ r. ⌜ r ≡ plainNode kind arg id left right comparison column negated test ⌝ }
+{
+    Node {
+        kind,
+        arg,
+        id,
+        left,
+        right,
+        comparison,
+        column,
+        listed: 0,
+        list: [0; 7],
+        negated,
+        test,
+    }
 }
 
 // Writes bytes from a place on.

@@ -1,0 +1,108 @@
+-- The stay note at a place, over bytes, and the ends of its call. Assumes nothing.
+use Prim.Native.Nat.{ℕ, zero, suc, _≤_, _<_}
+use mathlib.Core.Bool.{Bool, true, false, cond}
+use mathlib.Core.Path.{_≡_, refl, sym, ap, ap₂, _∙_, subst}
+use mathlib.Core.List.{List}
+use mathlib.Core.Option.{Option, none, some}
+use native.Mathlib.Omega.{arith}
+use lib.Dec.{ltb}
+use lib.ListN.{length, replicate}
+use borrow.Author.Tests.{lt-ltb, le-ltb}
+use Rattle.algebra.specs.Lists.{if_then_else_}
+use Rattle.algebra.specs.Plans.{Plan}
+use Rattle.algebra.specs.Refusals.{need}
+use Rattle.algebra.specs.Rules.{ruleOf}
+use Rattle.algebra.specs.StayNotes.{Sequences, sequencesOf, comparing, noted}
+use Rattle.reading.specs.TableSet.{tablesOf}
+use Rattle.reading.specs.Plan.{nodesOf}
+use Rattle.reading.specs.Tree.{planAt, planOf}
+use Rattle.reading.specs.Check.{orNext, inputRefusal, checkOf}
+use Rattle.reading.specs.declared.input.Checked.the-variants.{Refused as InputRefused}
+use Rattle.reporting.specs.Report.{scratchNumber, scratchAfter}
+use Rattle.reporting.proofs.Reports.{answer-refused}
+use Rattle.unnesting.specs.Shapes.{ready}
+use Rattle.unnesting.specs.Sequences.{ComparedAs}
+use Rattle.unnesting.specs.Attempts.{possible, Left}
+use Rattle.unnesting.specs.StayNote.{stayNumber, noteDue, dueAfter, Allowed, StayNoted}
+use Rattle.unnesting.specs.declared.sequence.Compared.{Compared}
+use Rattle.unnesting.specs.declared.sequence.Compared.the-variants.{Same, Differ}
+use Rattle.unnesting.proofs.SequenceLaws.{ready-comparing}
+use Rattle.unnesting.proofs.CandidateLaws.{note-possible, note-past}
+use Rattle.unnesting.proofs.AttemptLaws.{nodes-size}
+
+-- ---- the note at a place
+
+undue : (set plan : List ℕ) (place : ℕ) → noteDue set plan place ≡ none → Allowed (noteDue set plan place) none
+undue set plan place e = subst (λ (o : Option Sequences). Allowed o none) (sym e) refl
+
+module _ (set plan : List ℕ) (input : inputRefusal set plan ≡ 0) (i : ℕ) where
+  -- past the last node there is none
+  pub note-outside : nodesOf plan ≤ i → Allowed (noteDue set plan i) none
+  note-outside h = undue set plan i (note-past (tablesOf set) (planOf plan) i (omega (arith, nodes-size set plan input)))
+
+  module _ (inside : i < nodesOf plan) where
+    by : (a b : Bool) (o : Option Plan) → comparing (ruleOf (planAt plan i)) ≡ a → ready (tablesOf set) (planAt plan i) ≡ b → possible (tablesOf set) (planOf plan) i ≡ o
+        → noteDue set plan i ≡ cond a (cond b none (noted (sequencesOf (tablesOf set) (planAt plan i)) o)) none
+    by a b o e f g =
+        note-possible set plan input i inside ∙ (λ k. cond (e k) (cond (f k) none (noted (sequencesOf (tablesOf set) (planAt plan i)) (g k))) none)
+
+    -- where the rule is none of U3, U4 and U6
+    pub note-other : comparing (ruleOf (planAt plan i)) ≡ false → Allowed (noteDue set plan i) none
+    note-other e = undue set plan i (by false _ _ e refl refl)
+
+    -- where something else stands against it
+    pub note-impossible : possible (tablesOf set) (planOf plan) i ≡ none → Allowed (noteDue set plan i) none
+    note-impossible e = undue set plan i (go (comparing (ruleOf (planAt plan i))) (ready (tablesOf set) (planAt plan i)) refl refl)
+      where
+        go : (a b : Bool) → comparing (ruleOf (planAt plan i)) ≡ a → ready (tablesOf set) (planAt plan i) ≡ b → noteDue set plan i ≡ none
+        go true true f g = by true true none f g e
+        go true false f g = by true false none f g e
+        go false b f g = by false b none f g e
+
+    -- where the sequences are the same
+    pub note-same : comparing (ruleOf (planAt plan i)) ≡ true → (r : Compared) → ComparedAs (sequencesOf (tablesOf set) (planAt plan i) .first) (sequencesOf (tablesOf set) (planAt plan i) .second) r
+        → r ≡ Same → Allowed (noteDue set plan i) none
+    note-same e r h f =
+        let s = subst (ComparedAs (sequencesOf (tablesOf set) (planAt plan i) .first) (sequencesOf (tablesOf set) (planAt plan i) .second)) f h in
+        undue set plan i (by true true _ e (ready-comparing (tablesOf set) (planAt plan i) e ∙ s) refl)
+
+    -- where they differ, and nothing else stands against it
+    pub note-differ : comparing (ruleOf (planAt plan i)) ≡ true → (buffer : List ℕ) (long cells : ℕ) → Left set buffer (possible (tablesOf set) (planOf plan) i) long cells → (r : Compared) (position : ℕ)
+        → ComparedAs (sequencesOf (tablesOf set) (planAt plan i) .first) (sequencesOf (tablesOf set) (planAt plan i) .second) r → r ≡ Differ position → Allowed (noteDue set plan i) (some position)
+    note-differ e buffer long cells l r position h f =
+        let s = subst (ComparedAs (sequencesOf (tablesOf set) (planAt plan i) .first) (sequencesOf (tablesOf set) (planAt plan i) .second)) f h in
+        subst (λ (o : Option Sequences). Allowed o (some position)) (sym (by true false (some (l .after)) e (ready-comparing (tablesOf set) (planAt plan i) e ∙ s .0) (l .is))) (s .1)
+
+-- ---- the ends of the call
+
+module _ (set plan : List ℕ) (place : ℕ) (scratch scratch′ : List ℕ) (refusal : ℕ) (note : Option ℕ) where
+  -- a refusal gives no note
+  refused-answer : (k : ℕ) → stayNumber set plan (length scratch) ≡ suc k → refusal ≡ suc k → note ≡ none → scratch′ ≡ scratchAfter (inputRefusal set plan) scratch
+      → StayNoted set plan place scratch scratch′ refusal note
+  refused-answer k e r n c = record { number = r ∙ sym e; position = rw e n; cleared = c }
+
+  pub note-turned-back : (number : ℕ) → checkOf set plan ≡ InputRefused number → refusal ≡ number → note ≡ none → scratch′ ≡ scratch → StayNoted set plan place scratch scratch′ refusal note
+  unfolding checkOf stayNumber
+  note-turned-back number e r n c = let (f, p) = answer-refused (inputRefusal set plan) _ _ _ number e in go number p f r
+    where
+      counted : (k : ℕ) → inputRefusal set plan ≡ suc k → stayNumber set plan (length scratch) ≡ suc k
+      counted k f = rw f
+
+      go : (k : ℕ) → 0 < inputRefusal set plan → inputRefusal set plan ≡ k → refusal ≡ k → StayNoted set plan place scratch scratch′ refusal note
+      go zero p f r = absurd (omega arith)
+      go (suc k) p f r = refused-answer k (counted k f) r n (rw f c)
+
+  module _ (passed : inputRefusal set plan ≡ 0) (clean : scratch′ ≡ replicate (length scratch) 0) where
+    number-16 : length scratch < need (tablesOf set) (planOf plan) → stayNumber set plan (length scratch) ≡ 16
+    unfolding stayNumber
+    number-16 h = rw (passed, lt-ltb (length scratch) (need (tablesOf set) (planOf plan)) h)
+
+    number-0 : need (tablesOf set) (planOf plan) ≤ length scratch → stayNumber set plan (length scratch) ≡ 0
+    unfolding stayNumber
+    number-0 h = rw (passed, le-ltb (length scratch) (need (tablesOf set) (planOf plan)) h)
+
+    pub note-short : length scratch < need (tablesOf set) (planOf plan) → refusal ≡ 16 → note ≡ none → StayNoted set plan place scratch scratch′ refusal note
+    note-short h r n = refused-answer 15 (number-16 h) r n (rw passed clean)
+
+    pub note-given : need (tablesOf set) (planOf plan) ≤ length scratch → refusal ≡ 0 → Allowed (noteDue set plan place) note → StayNoted set plan place scratch scratch′ refusal note
+    note-given h r a = let e = number-0 h in record { number = r ∙ sym e; position = rw e a; cleared = rw passed clean }

@@ -1,0 +1,122 @@
+use native.Mathlib.Omega.{arith}
+use mathlib.Core.Path.{_≡_, sym, ap, _∙_, subst}
+use mathlib.Core.List.{List}
+use Prim.Native.Nat.{ℕ, _-_}
+use lib.ListN.{take}
+use Rattle.reading.specs.Check.{checkOf}
+use borrow.Author.Tests.{not-true, not-false}
+use Rattle.algebra.specs.Rules.{fresh}
+use Rattle.reading.specs.Plan.{nodesOf}
+use Rattle.reading.specs.TableSet.{tablesOf}
+use Rattle.reading.specs.Tree.{planOf}
+use Rattle.reading.proofs.PlanBytes.{plan-passed}
+use Rattle.unnesting.specs.Shapes.{Makes}
+use Rattle.unnesting.proofs.Demand3.{input-parts}
+use Rattle.unnesting.proofs.CandidateLaws.{fit-none, fit-made, possible-none, tried-no, tried-yes, written-fits}
+use borrow.Author.Needs.{needs}
+use Rattle.unnesting.proofs.step.possible_at.Statement.{statement}
+use Rattle.unnesting.proofs.step.possible_at.Tie as tie
+use Rattle.unnesting.proofs.step.possible_at.Reads as reads
+use Rattle.unnesting.proofs.step.possible_at.Lts as lts
+use Rattle.reading.proofs.input.check_input.Reads as check-input-reads
+use Rattle.unnesting.proofs.change.write_change.Reads as write-change-reads
+use Rattle.unnesting.proofs.shape.shape_at.Reads as shape-at-reads
+
+made : (c : tie.Else1) → Makes (tablesOf (c .before .before .before .before .before .before .args .set .now)) (fresh (tablesOf (c .before .before .before .before .before .before .args .set .now)) (planOf (c .before .before .before .before .before .before .args .plan .now))) (c .before .before .before .before .before .before .args .plan .now) (c .before .before .before .before .before .before .args .i) (c .before .before .shape-at .result .change)
+made c = let a = c .before .before .before .before .before .before .args in fit-made (tablesOf (a .set .now)) (fresh (tablesOf (a .set .now)) (planOf (a .plan .now))) (a .plan .now) (a .i) (c .before .before .shape-at .result) (c .before .before .shape-at .ensures) (not-false _ (c .if1 .left))
+
+told : (c : tie.After-check-input) → c .check-input .result ≡ checkOf (c .before .before .before .before .before .before .before .before .before .before .before .before .before .args .set .now) (take (c .before .before .before .before .before .write-change .result) (c .before .before .before .before .before .write-change .last .1 .1 .1 .0))
+told c =
+    let r = c .before .before .before .before .before .write-change .result in
+    let l = c .before .before .before .before .before .write-change .last .1 .1 .1 .0 in
+    let z : r - 0 ≡ r = omega arith in
+    subst (λ (n : ℕ). c .check-input .result ≡ checkOf (c .before .before .before .before .before .before .before .before .before .before .before .before .before .args .set .now) (take n l)) z (c .check-input .ensures)
+
+-- src/step.rt:50:9
+shape-at-requires : tie.Need-shape-at-requires
+shape-at-requires c κs = search needs
+
+-- src/step.rt:52:9
+returns : tie.Need-returns
+returns c =
+    let s = c .before .before .before .before .before .before in
+    let a = s .args in
+    possible-none (a .set .now) (a .plan .now) (s .pre .0 .0) (a .i) (s .pre .1 .0)
+    (fit-none (tablesOf (a .set .now)) (fresh (tablesOf (a .set .now)) (planOf (a .plan .now))) (a .plan .now) (a .i) (c .before .before .shape-at .result) (c .before .before .shape-at .ensures) (not-true _ (c .if1 .taken)))
+
+-- src/step.rt:54:9
+write-change-requires : tie.Need-write-change-requires
+write-change-requires c κs =
+    let s = c .before .before .before .before .before .before .before in
+    let a = s .args in
+    let p = plan-passed (a .set .now) (a .plan .now) (input-parts (a .set .now) (a .plan .now) (s .pre .0 .0) .1) in
+    (made (c .before) .inside, p .known .long, omega (arith, s .pre .1 .2))
+
+-- src/step.rt:55:28
+sub-check-input : tie.Need-sub-check-input
+sub-check-input c = search needs
+
+-- src/step.rt:55:28
+part-check-input-start : tie.Need-part-check-input-start
+part-check-input-start c = search needs
+
+-- src/step.rt:55:28
+part-check-input-end : tie.Need-part-check-input-end
+part-check-input-end c =
+    let s = c .before .before .before .before .before .before .before .before .before .before .before in
+    let e = c .before .before .before .write-change in
+    omega (arith, made (c .before .before .before .before .before) .inside .count, e .ensures .0, e .kept .1 .1 .1 .0, s .pre .1 .2)
+
+-- src/step.rt:55:11
+check-input-requires : tie.Need-check-input-requires
+check-input-requires c κs = search needs
+
+-- src/step.rt:56:32
+enum-told : tie.Need-enum-told
+enum-told c = search needs
+
+-- src/step.rt:60:13
+enum-known-need : tie.Need-enum-known-need
+enum-known-need c = search needs
+
+-- src/step.rt:45:1
+same-length : tie.Need-same-length
+same-length c = search needs
+
+-- src/step.rt:45:1
+returns-2 : tie.Need-returns-2
+returns-2 c =
+    let s = c .before .before .before .before .before .before .before .before .before .before .before .before .before .before .before in
+    let a = s .args in
+    let e = c .before .before .before .before .before .before .before .write-change in
+    tried-no (a .set .now) (a .plan .now) (a .i) _ (s .pre .0 .0) (s .pre .0 .1) (made (c .before .before .before .before .before .before .before .before .before)) (e .last .1 .1 .1 .0) (e .result) (omega (arith, e .kept .1 .1 .1 .0, s .pre .1 .2)) (e .ensures .0) (e .ensures .1) _ (sym (told (c .before .before)) ∙ c .enum-told .given .1)
+
+-- src/step.rt:45:1
+same-length-2 : tie.Need-same-length-2
+same-length-2 c = search needs
+
+-- src/step.rt:45:1
+returns-3 : tie.Need-returns-3
+returns-3 c =
+    let s = c .before .before .before .before .before .before .before .before .before .before .before .before .before .before .before .before in
+    let a = s .args in
+    let e = c .before .before .before .before .before .before .before .before .write-change in
+    tried-yes (a .set .now) (a .plan .now) (a .i) _ (s .pre .0 .0) (s .pre .0 .1) (made (c .before .before .before .before .before .before .before .before .before .before)) (e .last .1 .1 .1 .0) (e .result) (omega (arith, e .kept .1 .1 .1 .0, s .pre .1 .2)) (e .ensures .0) (e .ensures .1) _ _ _ (sym (told (c .before .before .before)) ∙ c .before .need .given .1)
+
+pub possible-at-spec : {M : Type 1} → statement M
+possible-at-spec =
+    tie.close
+    (tie.spec
+    shape-at-requires
+    returns
+    write-change-requires
+    sub-check-input
+    part-check-input-start
+    part-check-input-end
+    check-input-requires
+    enum-told
+    enum-known-need
+    same-length
+    returns-2
+    same-length-2
+    returns-3)

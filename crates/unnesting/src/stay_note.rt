@@ -1,0 +1,74 @@
+// The stay note call.
+ghost use mathlib.Core.Path.{_≡_};
+ghost use mathlib.Core.Bool.{true};
+ghost use Prim.Native.Nat.{_≤_};
+ghost use lib.ListN.{length};
+ghost use Rattle.algebra.specs.Refusals.{need, passes};
+ghost use Rattle.reading.specs.TableSet.{tablesOf};
+ghost use Rattle.reading.specs.Tree.{planOf};
+ghost use Rattle.reading.specs.Check.{inputRefusal};
+ghost use Rattle.unnesting.specs.StayNote.{Allowed, StayNoted, noteDue};
+ghost use Rattle.unnesting.specs.Notes.{noteNumber, notePosition};
+use crate::sequence::Compared;
+use crate::sequence::compares;
+use crate::sequence::sequences_at;
+use crate::shape::rule_of;
+use crate::step::Tried;
+use crate::step::possible_at;
+use reading::input::Checked;
+use reading::input::check_input;
+use reading::plan::node_at;
+use reading::tree::nodes_of;
+use reporting::output::clear;
+
+// What the stay note call gives: a refusal's number, no note, or a position at which the sequences differ or just one has ended.
+pub enum StayNote {
+    Refused(u8),
+    None,
+    Position(usize),
+}
+
+// The note at a place of an input that 1 to 14 do not turn back, with scratch enough.
+fn note_at(set: &[u8], plan: &[u8], place: usize, scratch: &mut [u32]) -> StayNote
+    requires { ⌜ inputRefusal (now set) (now plan) ≡ 0 ⌝ }
+    requires { ⌜ need (tablesOf (now set)) (planOf (now plan)) ≤ length (now scratch) ⌝ }
+    ensures { λ r. ⌜ (noteNumber r ≡ 0) × Allowed (noteDue (now (set .entry)) (now (plan .entry)) place) (notePosition r) ⌝ }
+{
+    if nodes_of(plan) <= place {
+        return StayNote::None;
+    }
+    let node = node_at(plan, place);
+    if !compares(rule_of(node)) {
+        return StayNote::None;
+    }
+    let mut after = [0u8; 1566];
+    match possible_at(set, plan, place, node, &mut after) {
+        Tried::No => StayNote::None,
+        Tried::Yes { length: _, need: _ } => match sequences_at(set, plan, place, node, scratch) {
+            Compared::Same => StayNote::None,
+            Compared::Differ(position) => StayNote::Position(position),
+        },
+    }
+}
+
+// The note at a place of a plan: a position exactly where U3, U4 or U6 fails there only because the sequences differ.
+pub fn stay_note(set: &[u8], plan: &[u8], place: usize, scratch: &mut [u32]) -> StayNote
+    ensures { λ r. ⌜ StayNoted (now (set .entry)) (now (plan .entry)) place (now (scratch .entry)) (now (scratch .exit)) (noteNumber r) (notePosition r) ⌝ }
+{
+    match check_input(set, plan) {
+        Checked::Refused(number) => StayNote::Refused(number),
+        Checked::Accepted {
+            tables: _,
+            nodes: _,
+            need,
+        } => {
+            if scratch.len() < need {
+                clear(scratch);
+                return StayNote::Refused(16);
+            }
+            let note = note_at(set, plan, place, scratch);
+            clear(scratch);
+            note
+        }
+    }
+}
