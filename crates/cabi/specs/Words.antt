@@ -1,0 +1,46 @@
+-- What a C program gets from each call: one 64-bit word, beside the buffers that it lends. A refused call gives its number alone.
+-- Definitions only.
+use Prim.Native.Nat.{ℕ, _+_, _*_}
+use mathlib.Core.Path.{_≡_}
+use mathlib.Core.List.{List}
+use mathlib.Core.Option.{Option, none, some}
+use lib.IntN.{ℤ}
+use Rattle.reporting.specs.declared.answer.Report.{Report}
+use Rattle.reporting.specs.Report.{Reported}
+use Rattle.unnesting.specs.Unnest.{Unnested}
+use Rattle.unnesting.specs.StayNote.{StayNoted}
+
+-- ---- the words
+
+-- refusal + 2 ^ 8 · columns + 2 ^ 16 · rows
+abbrev pub reportWord : Report → ℕ
+reportWord r = r .refusal + 256 * r .columns + 65536 * r .rows
+
+-- refusal + 2 ^ 8 · steps + 2 ^ 24 · bytes of the plan
+abbrev pub unnestWord : ℕ → ℕ → ℕ → ℕ
+unnestWord refusal steps bytes = refusal + 256 * steps + 16777216 * bytes
+
+-- the refusal, 0 where there is no note; a note is 2 ^ 8 + 2 ^ 16 · position
+abbrev pub stayWord : ℕ → Option ℕ → ℕ
+stayWord refusal none = refusal
+stayWord refusal (some position) = 256 + 65536 * position
+
+-- ---- the calls: the word holds an answer that is the lower layer's, with its buffers
+
+pub record ReportCalled (set plan : List ℕ) (out out′ : List ℤ) (scratch scratch′ : List ℕ) (word : ℕ) : Type 0 where
+  pub answer : Report
+  pub reported : Reported set plan out out′ scratch scratch′ answer
+  pub encoded : word ≡ reportWord answer
+
+pub record UnnestCalled (set plan planOut planOut′ stepsOut stepsOut′ scratch scratch′ : List ℕ) (word : ℕ) : Type 0 where
+  pub refusal : ℕ
+  pub steps : ℕ
+  pub bytes : ℕ
+  pub unnested : Unnested set plan planOut planOut′ stepsOut stepsOut′ scratch scratch′ refusal steps bytes
+  pub encoded : word ≡ unnestWord refusal steps bytes
+
+pub record StayNoteCalled (set plan : List ℕ) (place : ℕ) (scratch scratch′ : List ℕ) (word : ℕ) : Type 0 where
+  pub refusal : ℕ
+  pub note : Option ℕ
+  pub noted : StayNoted set plan place scratch scratch′ refusal note
+  pub encoded : word ≡ stayWord refusal note

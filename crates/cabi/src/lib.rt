@@ -1,0 +1,48 @@
+// The C interface. Each slice is passed as a pointer and a length, in this order; include/club.h has the declarations.
+ghost use Rattle.cabi.specs.Words.{ReportCalled, UnnestCalled, StayNoteCalled};
+use reporting::report::report;
+use unnesting::stay_note::StayNote;
+use unnesting::stay_note::stay_note;
+use unnesting::unnest::unnest;
+
+// The reporting call. C gets refusal + 2^8 * columns + 2^16 * rows.
+#[no_mangle]
+pub extern "C" fn club_report(set: &[u8], plan: &[u8], out: &mut [i32], scratch: &mut [u32]) -> u64
+    ensures { λ r. ⌜ ReportCalled (now (set .entry)) (now (plan .entry)) (now (out .entry)) (now (out .exit)) (now (scratch .entry)) (now (scratch .exit)) r ⌝ }
+{
+    let answer = report(set, plan, out, scratch);
+    let refusal = answer.refusal as u64;
+    let columns = answer.columns as u64;
+    let rows = answer.rows as u64;
+    refusal + 256 * columns + 65536 * rows
+}
+
+// The unnesting call. C gets refusal + 2^8 * steps + 2^24 * bytes of the plan.
+#[no_mangle]
+pub extern "C" fn club_unnest(
+    set: &[u8],
+    plan: &[u8],
+    out_plan: &mut [u8],
+    out_steps: &mut [u8],
+    scratch: &mut [u32],
+) -> u64
+    ensures { λ r. ⌜ UnnestCalled (now (set .entry)) (now (plan .entry)) (now («out_plan» .entry)) (now («out_plan» .exit)) (now («out_steps» .entry)) (now («out_steps» .exit)) (now (scratch .entry)) (now (scratch .exit)) r ⌝ }
+{
+    let answer = unnest(set, plan, out_plan, out_steps, scratch);
+    let refusal = answer.refusal as u64;
+    let steps = answer.steps as u64;
+    let bytes = answer.bytes as u64;
+    refusal + 256 * steps + 16777216 * bytes
+}
+
+// The stay note call. C gets the refusal, 0 where there is no note, or 2^8 + 2^16 * position.
+#[no_mangle]
+pub extern "C" fn club_stay_note(set: &[u8], plan: &[u8], place: usize, scratch: &mut [u32]) -> u64
+    ensures { λ r. ⌜ StayNoteCalled (now (set .entry)) (now (plan .entry)) place (now (scratch .entry)) (now (scratch .exit)) r ⌝ }
+{
+    match stay_note(set, plan, place, scratch) {
+        StayNote::Refused(number) => number as u64,
+        StayNote::None => 0,
+        StayNote::Position(position) => 256 + 65536 * (position as u64),
+    }
+}
