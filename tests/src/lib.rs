@@ -2,8 +2,11 @@
 //!
 //! It shares no code and no definition with the proved library: it reads the same bytes in its
 //! own way, so that a mistake in reading the paper shows as a difference between the two.
-//! It is plain rather than quick. The calls that the library has are in [`calls`].
+//! It is plain rather than quick. The calls that the library has are in [`calls`]; `archive` and
+//! `held` hold those of the library's archive against them, where the archive is there.
 
+#[cfg(archive)]
+pub mod archive;
 pub mod build;
 pub mod calls;
 pub mod cases;
@@ -13,6 +16,9 @@ pub mod damage;
 pub mod edges;
 pub mod evaluate;
 pub mod generate;
+#[cfg(archive)]
+pub mod held;
+pub mod listings;
 pub mod nodes;
 pub mod plan;
 pub mod random;

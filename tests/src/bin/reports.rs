@@ -47,7 +47,8 @@ fn main() {
 /// The edges, random accepted inputs, and a few that are turned back.
 fn inputs() -> Vec<(Vec<u8>, Vec<u8>)> {
     let mut random = Random::new(2);
-    let mut all: Vec<(Vec<u8>, Vec<u8>)> = edges().iter().map(|(_, input)| (input.set_bytes(), input.plan_bytes())).collect();
+    let mut all: Vec<(Vec<u8>, Vec<u8>)> =
+        edges().iter().map(|(_, input)| (input.set_bytes(), input.plan_bytes())).collect();
     while all.len() < 700 {
         let input = accepted(&mut random);
         let (set, plan) = (input.set_bytes(), input.plan_bytes());
@@ -65,7 +66,8 @@ fn answer(set: &[u8], plan: &[u8]) -> (u8, String) {
     match report(set, plan, OUTPUT, SCRATCH) {
         Err(number) => (number, format!("refused {number}")),
         Ok(report) => {
-            let cells: String = report.codes.iter().map(|code| format!(" {}", i64::from(*code) + 2_147_483_648)).collect();
+            let cells: String =
+                report.codes.iter().map(|code| format!(" {}", i64::from(*code) + 2_147_483_648)).collect();
             (0, format!("rows {} columns {}{cells}", report.rows, report.columns))
         }
     }

@@ -1,0 +1,67 @@
+/* Prints what the calls of club.h answer for a set and a plan, whose files are the two arguments. */
+#include "club.h"
+
+#include <stdio.h>
+
+static uint8_t set[600000], plan[2000], out_plan[1542], out_steps[384];
+static int32_t out[4096 * 32];
+static uint32_t scratch[1000000];
+
+/* Reads a file; one that is not there counts as empty. */
+static size_t read_file(const char *name, uint8_t *to, size_t room)
+{
+    FILE *file = fopen(name, "rb");
+    size_t length = 0;
+    if (file != NULL) {
+        length = fread(to, 1, room, file);
+        fclose(file);
+    }
+    return length;
+}
+
+static void print_report(size_t set_len, size_t plan_len)
+{
+    uint64_t word = club_report(set, set_len, plan, plan_len, out, sizeof out / sizeof *out,
+                                scratch, sizeof scratch / sizeof *scratch);
+    size_t cell, cells = club_rows(word) * club_columns(word);
+    printf("report refusal %u rows %zu columns %zu:", club_refusal(word), club_rows(word), club_columns(word));
+    for (cell = 0; cell < cells; cell++)
+        printf(" %ld", (long)out[cell]);
+    printf("\n");
+}
+
+static void print_steps(size_t set_len, size_t plan_len)
+{
+    uint64_t word = club_unnest(set, set_len, plan, plan_len, out_plan, sizeof out_plan, out_steps, sizeof out_steps,
+                                scratch, sizeof scratch / sizeof *scratch);
+    size_t step;
+    printf("unnest refusal %u bytes %zu steps %zu:", club_refusal(word), club_plan_bytes(word), club_steps(word));
+    for (step = 0; step < club_steps(word); step++)
+        printf(" U%u %u", out_steps[2 * step], out_steps[2 * step + 1]);
+    printf("\n");
+}
+
+static void print_notes(size_t set_len, size_t plan_len)
+{
+    size_t place;
+    for (place = 0; place < 3; place++) {
+        uint64_t word = club_stay_note(set, set_len, plan, plan_len, place, scratch, sizeof scratch / sizeof *scratch);
+        if (club_has_note(word))
+            printf("note at %zu: position %zu\n", place, club_position(word));
+        else
+            printf("note at %zu: none, refusal %u\n", place, club_refusal(word));
+    }
+}
+
+int main(int count, char **names)
+{
+    size_t set_len, plan_len;
+    if (count != 3)
+        return 2;
+    set_len = read_file(names[1], set, sizeof set);
+    plan_len = read_file(names[2], plan, sizeof plan);
+    print_report(set_len, plan_len);
+    print_steps(set_len, plan_len);
+    print_notes(set_len, plan_len);
+    return 0;
+}

@@ -1,0 +1,285 @@
+//! Holds the archive's calls against the second evaluator, input by input, and counts what was met.
+//!
+//! Input number i of a seed is drawn from the seed plus i, so a difference can be met again alone.
+
+use crate::archive;
+use crate::build::*;
+use crate::calls;
+use crate::cases::{damaged_once, fault_case};
+use crate::damage::{faults, Fault};
+use crate::generate::{accepted, code, steps, Input};
+use crate::plan::Comparison::Equal;
+use crate::plan::{Aggregate, Plan, COMPARISONS};
+use crate::random::Random;
+use crate::tables::Table;
+
+/// How often each answer and each rule was met.
+#[derive(Clone, Default)]
+pub struct Counts {
+    pub inputs: usize,
+    /// Answers of the three calls by their number, 0 for none.
+    pub reports: [usize; 17],
+    pub unnestings: [usize; 17],
+    pub stay_notes: [usize; 17],
+    /// Steps of the unnesting call by rule.
+    pub rules: [usize; 9],
+    /// Tried steps that fitted, by rule, and those that did not, at 0.
+    pub tried: [usize; 9],
+    /// Stay notes given.
+    pub notes: usize,
+}
+
+impl Counts {
+    /// The counts as lines of text.
+    pub fn lines(&self) -> String {
+        let calls = [&self.reports, &self.unnestings, &self.stay_notes].map(|counts| counts.iter().sum::<usize>());
+        let by_number = |name: &str, counts: &[usize; 17]| {
+            let numbers: String = (1..=16).map(|number| format!(" {number}:{}", counts[number])).collect();
+            format!("{name}: answered {}, refused{numbers}\n", counts[0])
+        };
+        let by_rule =
+            |counts: &[usize; 9]| (1..=8).map(|rule| format!(" U{rule}:{}", counts[rule])).collect::<String>();
+        format!("inputs {}, calls {}\n", self.inputs, calls.iter().sum::<usize>())
+            + &by_number("report", &self.reports)
+            + &by_number("unnest", &self.unnestings)
+            + &by_number("stay note", &self.stay_notes)
+            + &format!("notes given {}\n", self.notes)
+            + &format!("steps of the unnesting call{}\n", by_rule(&self.rules))
+            + &format!("tried steps that fitted{}, that did not {}\n", by_rule(&self.tried), self.tried[0])
+    }
+}
+
+/// Holds so many inputs against the second evaluator, those of the seed and the ones after it. The first difference ends it.
+pub fn hold_seeds(seed: u64, count: u64, counts: &mut Counts) -> Result<(), String> {
+    let faults = faults();
+    for seed in seed..seed + count {
+        let mut random = Random::new(seed);
+        let (set, plan) = drawn(&mut random, &faults);
+        hold(&mut random, &set, &plan, counts).map_err(|difference| format!("seed {seed}: {difference}"))?;
+    }
+    Ok(())
+}
+
+/// A random input: accepted; with one fault or two; or with bytes changed, cut off or put on anywhere.
+fn drawn(random: &mut Random, faults: &[Fault]) -> (Vec<u8>, Vec<u8>) {
+    match random.below(100) {
+        0..=58 => bytes_of(&accepted(random)),
+        59 => bytes_of(&large(random)),
+        60..=73 => {
+            let fault = random.below(faults.len());
+            let case = fault_case(random, &faults[fault]);
+            (case.set, case.plan)
+        }
+        74..=87 => two_faults(random, faults),
+        _ => mangled(random),
+    }
+}
+
+/// The bytes of an input.
+fn bytes_of(input: &Input) -> (Vec<u8>, Vec<u8>) {
+    (input.set_bytes(), input.plan_bytes())
+}
+
+/// An input with two faults. Some two suit no input together, so they are picked anew each time.
+fn two_faults(random: &mut Random, faults: &[Fault]) -> (Vec<u8>, Vec<u8>) {
+    let pairable: Vec<&Fault> = faults.iter().filter(|fault| !fault.alone).collect();
+    loop {
+        let pair = [random.pick(&pairable), random.pick(&pairable)];
+        if let Some(case) = damaged_once(random, &pair) {
+            return (case.set, case.plan);
+        }
+    }
+}
+
+/// An accepted input with a few bytes changed, cut off or put on.
+fn mangled(random: &mut Random) -> (Vec<u8>, Vec<u8>) {
+    let (mut set, mut plan) = bytes_of(&accepted(random));
+    for _ in 0..random.between(1, 3) {
+        let bytes = if random.chance(30) { &mut set } else { &mut plan };
+        let place = random.below(bytes.len() + 1);
+        match random.below(10) {
+            0 => bytes.truncate(place),
+            1 => bytes.insert(place, random.bits() as u8),
+            _ if place == bytes.len() => bytes.push(0),
+            2..=4 => bytes[place] = random.bits() as u8,
+            _ => bytes[place] = random.below(16) as u8,
+        }
+    }
+    (set, plan)
+}
+
+/// One step over tables of some hundred rows, up to the thousand that a table may have.
+fn large(random: &mut Random) -> Input {
+    let height = random.between(200, 1000);
+    let different = random.between(1, height);
+    let table = |random: &mut Random, height: usize| Table {
+        columns: 2,
+        rows: (0..height).map(|_| vec![random.below(different) as i32, code(random)]).collect(),
+    };
+    let tables = vec![table(random, height), table(random, 300)];
+    let comparison = random.pick(&COMPARISONS);
+    let inner = || select(columns_test(0, Equal, 2), scan(1, 2));
+    let plan = match random.below(10) {
+        0 => sort(random.chance(50), &[0, 1], scan(0, 0)),
+        1 => distinct(&[0], scan(0, 0)),
+        2 => group(Aggregate::Sum(1), 9, keys(8, comparison, 0), scan(0, 0)),
+        3 => semi(0, 2, number_test(3, comparison, 2), scan(0, 0), scan(1, 2)),
+        4 => anti(0, 2, number_test(3, comparison, 2), scan(0, 0), scan(1, 2)),
+        5 => pair(Aggregate::Least(3), 9, keys(0, comparison, 2), scan(0, 0), scan(1, 2)),
+        6 => some(number_test(3, comparison, 2), scan(0, 0), inner()),
+        7 => every(number_test(3, comparison, 2), scan(0, 0), inner()),
+        8 => fold(Aggregate::Greatest(3), 9, number_test(3, comparison, 2), scan(0, 0), inner()),
+        _ => select(columns_test(1, comparison, 3), cross(scan(0, 0), project(&[3], group_of_few()))),
+    };
+    Input { tables, plan }
+}
+
+/// A plan of one row with the id 3.
+fn group_of_few() -> Plan {
+    fold(Aggregate::Count, 3, number_test(5, Equal, 1), Plan::Unit, scan(1, 4))
+}
+
+/// Holds all calls on one input against the second evaluator.
+pub fn hold(random: &mut Random, set: &[u8], plan: &[u8], counts: &mut Counts) -> Result<(), String> {
+    counts.inputs += 1;
+    hold_report(random, set, plan, counts)?;
+    hold_tried_steps(random, set, plan, counts)?;
+    hold_unnest(random, set, plan, counts)?;
+    hold_stay_notes(random, set, plan, counts)
+}
+
+/// One less than a room, or the same where there is none.
+fn below(room: usize) -> usize {
+    room.saturating_sub(1)
+}
+
+/// The reporting call at the edge of both rooms, and at one pair of rooms around it.
+fn hold_report(random: &mut Random, set: &[u8], plan: &[u8], counts: &mut Counts) -> Result<(), String> {
+    let (cells, need) = match calls::report(set, plan, calls::ROOMY, calls::ROOMY) {
+        Ok(report) => (report.codes.len(), calls::need_of(set, plan).expect("an accepted plan") as usize),
+        Err(_) => (random.below(9), random.below(5000)),
+    };
+    let around = match random.below(6) {
+        0 => (below(cells), need),
+        1 => (cells, below(need)),
+        2 => (below(cells), below(need)),
+        3 => (0, random.below(need + 1)),
+        4 => (random.below(cells + 1), need),
+        _ => (cells + random.below(40), need + random.below(400)),
+    };
+    for (out, scratch) in [(cells, need), around] {
+        let rooms = format!("report with room {out} and scratch {scratch}");
+        let expected = calls::report(set, plan, out, scratch);
+        let (word, codes) =
+            archive::report(random, set, plan, out, scratch).map_err(|error| format!("{rooms}: {error}"))?;
+        counts.reports[expected.as_ref().err().map_or(0, |&number| usize::from(number))] += 1;
+        let right = calls::report_word(&expected);
+        if word != right {
+            return Err(format!("{rooms}: the word is {word:#x} and not {right:#x}"));
+        }
+        if expected.is_ok_and(|report| report.codes != codes) {
+            return Err(format!("{rooms}: the codes differ"));
+        }
+    }
+    Ok(())
+}
+
+/// Demand 3 with a random list of steps: the archive's reports of an accepted plan and of the plan that the list leaves are the same.
+fn hold_tried_steps(random: &mut Random, set: &[u8], plan: &[u8], counts: &mut Counts) -> Result<(), String> {
+    let Ok((tables, tree)) = calls::read(set, plan) else { return Ok(()) };
+    if random.chance(60) {
+        return Ok(());
+    }
+    let input = Input { tables, plan: tree };
+    let list = steps(random, &input);
+    let mut left = plan.to_vec();
+    for &step in &list {
+        let after = calls::try_steps(set, &left, &[step]).expect("an accepted plan");
+        counts.tried[if after == left { 0 } else { usize::from(step.0) }] += 1;
+        left = after;
+    }
+    let scratch = calls::need_of(set, plan).max(calls::need_of(set, &left)).expect("accepted plans") as usize;
+    let given = archive::report(random, set, plan, 1 << 17, scratch)?;
+    if given != archive::report(random, set, &left, 1 << 17, scratch)? {
+        return Err(format!("the steps {list:?} change the report"));
+    }
+    if calls::report_columns(set, plan) != calls::report_columns(set, &left) {
+        return Err(format!("the steps {list:?} change the columns"));
+    }
+    Ok(())
+}
+
+/// The unnesting call at the edge of its three rooms, and at rooms around it; and the report of the plan that it leaves.
+fn hold_unnest(random: &mut Random, set: &[u8], plan: &[u8], counts: &mut Counts) -> Result<(), String> {
+    let left = calls::unnest(set, plan, calls::ROOMY, calls::ROOMY, calls::ROOMY);
+    let (bytes, step_bytes, need) = match &left {
+        Ok(left) => {
+            (left.plan.len(), 2 * left.steps.len(), calls::unnest_need(set, plan).expect("an accepted plan") as usize)
+        }
+        Err(_) => (random.below(9), random.below(9), random.below(5000)),
+    };
+    let around = match random.below(7) {
+        0 => (below(bytes), step_bytes, need),
+        1 => (bytes, below(step_bytes), need),
+        2 => (bytes, step_bytes, below(need)),
+        3 => (below(bytes), below(step_bytes), below(need)),
+        4 => (0, 0, random.below(need + 1)),
+        5 => (random.below(bytes + 1), random.below(step_bytes + 1), need),
+        _ => (bytes + random.below(40), step_bytes + random.below(9), need + random.below(400)),
+    };
+    for (plan_room, step_room, scratch) in [(bytes, step_bytes, need), around] {
+        let rooms = format!("unnest with rooms {plan_room}, {step_room} and scratch {scratch}");
+        let expected = calls::unnest(set, plan, plan_room, step_room, scratch);
+        let (word, plan_left, steps) = archive::unnest(random, set, plan, plan_room, step_room, scratch)
+            .map_err(|error| format!("{rooms}: {error}"))?;
+        counts.unnestings[expected.as_ref().err().map_or(0, |&number| usize::from(number))] += 1;
+        let right = calls::unnest_word(&expected);
+        if word != right {
+            return Err(format!("{rooms}: the word is {word:#x} and not {right:#x}"));
+        }
+        let Ok(expected) = expected else { continue };
+        expected.steps.iter().for_each(|&(rule, _)| counts.rules[usize::from(rule)] += 1);
+        if steps != expected.steps.iter().flat_map(|&(rule, place)| [rule, place]).collect::<Vec<u8>>() {
+            return Err(format!("{rooms}: the steps are {steps:?} and not {:?}", expected.steps));
+        }
+        if plan_left != expected.plan {
+            return Err(format!("{rooms}: the plan left differs"));
+        }
+    }
+    let Ok(left) = left else { return Ok(()) };
+    if archive::report(random, set, plan, 1 << 17, need)? != archive::report(random, set, &left.plan, 1 << 17, need)? {
+        return Err(format!("unnesting by {:?} changes the report", left.steps));
+    }
+    Ok(())
+}
+
+/// The stay note call at a few places: one where a note is due if there is one, anywhere, and past the last node.
+fn hold_stay_notes(random: &mut Random, set: &[u8], plan: &[u8], counts: &mut Counts) -> Result<(), String> {
+    let (size, due, need) = match calls::read(set, plan) {
+        Ok((tables, tree)) => {
+            let due = |&place: &usize| crate::rules::stay_positions(&tree, place, &tables).is_some();
+            (tree.size(), (0..tree.size()).find(due), crate::check::need(&tree, &tables) as usize)
+        }
+        Err(_) => (random.between(1, 9), None, random.below(5000)),
+    };
+    let shown = due.unwrap_or_else(|| random.below(size));
+    let past = [size, 64, 255, 256 + shown, (1 << 32) + shown, usize::MAX];
+    let places = [shown, random.below(size), random.pick(&past)];
+    for place in places {
+        let scratch = match random.below(6) {
+            0 => below(need),
+            1 => random.below(need + 1),
+            2 => need + random.below(400),
+            _ => need,
+        };
+        let expected = calls::stay_note(set, plan, place, scratch);
+        let word = archive::stay_note(random, set, plan, place, scratch)
+            .map_err(|error| format!("stay note for {place} with scratch {scratch}: {error}"))?;
+        counts.stay_notes[expected.as_ref().err().map_or(0, |&number| usize::from(number))] += 1;
+        counts.notes += usize::from(matches!(expected, Ok(Some(_))));
+        if !calls::stay_note_word_is_right(&expected, word) {
+            return Err(format!("stay note for {place} with scratch {scratch}: {word:#x}, where {expected:?} is due"));
+        }
+    }
+    Ok(())
+}

@@ -1,0 +1,90 @@
+//! include/club.h, compiled as C and as C++, and a C program over it and the archive, held against the second evaluator.
+#![cfg(archive)]
+
+use second::build::*;
+use second::calls::{report, stay_note, unnest, ROOMY};
+use second::edges::club;
+use second::generate::Input;
+use second::plan::Plan;
+use std::path::{Path, PathBuf};
+use std::process::Command;
+use std::{env, fs};
+
+/// A file of the repository.
+fn file(name: &str) -> PathBuf {
+    Path::new(env!("CARGO_MANIFEST_DIR")).join("..").join(name)
+}
+
+/// A file that this test writes.
+fn written(name: &str) -> PathBuf {
+    Path::new(env!("CARGO_TARGET_TMPDIR")).join(name)
+}
+
+/// Runs a command that must end well, and gives what it printed.
+fn run(command: &mut Command) -> String {
+    let output = command.output().expect("a command that starts");
+    assert!(output.status.success(), "{command:?}: {}", String::from_utf8_lossy(&output.stderr));
+    String::from_utf8(output.stdout).expect("text")
+}
+
+/// The C compiler, with every warning an error.
+fn compiler() -> Command {
+    let mut command = Command::new(env::var("CC").unwrap_or_else(|_| "cc".to_string()));
+    command.args(["-Wall", "-Wextra", "-Werror", "-pedantic"]).arg("-I").arg(file("include"));
+    command
+}
+
+/// What the C program has to print.
+fn expected(set: &[u8], plan: &[u8]) -> String {
+    let mut text = match report(set, plan, ROOMY, ROOMY) {
+        Ok(report) => {
+            let codes: String = report.codes.iter().map(|code| format!(" {code}")).collect();
+            format!("report refusal 0 rows {} columns {}:{codes}\n", report.rows, report.columns)
+        }
+        Err(number) => format!("report refusal {number} rows 0 columns 0:\n"),
+    };
+    text += &match unnest(set, plan, ROOMY, ROOMY, ROOMY) {
+        Ok(left) => {
+            let steps: String = left.steps.iter().map(|(rule, place)| format!(" U{rule} {place}")).collect();
+            format!("unnest refusal 0 bytes {} steps {}:{steps}\n", left.plan.len(), left.steps.len())
+        }
+        Err(number) => format!("unnest refusal {number} bytes 0 steps 0:\n"),
+    };
+    for place in 0..3 {
+        text += &match stay_note(set, plan, place, ROOMY) {
+            Ok(Some(positions)) => format!("note at {place}: position {}\n", positions[0]),
+            Ok(None) => format!("note at {place}: none, refusal 0\n"),
+            Err(number) => format!("note at {place}: none, refusal {number}\n"),
+        };
+    }
+    text
+}
+
+#[test]
+fn a_c_program_gets_the_answers() {
+    let program = written("club");
+    run(compiler().arg("-std=c99").arg(file("tests/c/club.c")).arg(env!("CLUB_ARCHIVE_COPY")).arg("-o").arg(&program));
+    // The listing; a Semi whose sequences differ at one place only, so that just one note is right; a refusal.
+    let keys = [one_column(&[1, 2]), one_column(&[1, 2, 3])];
+    let shorter = semi(0, 1, second::plan::ALWAYS, distinct(&[0], scan(0, 0)), scan(1, 1));
+    let inputs = [
+        club(),
+        Input { tables: keys.to_vec(), plan: shorter },
+        Input { tables: vec![], plan: select(NEVER, scan(0, 0)) },
+        Input { tables: vec![], plan: Plan::Unit },
+    ];
+    let (set_file, plan_file) = (written("set"), written("plan"));
+    for input in inputs {
+        fs::write(&set_file, input.set_bytes()).expect("a file");
+        fs::write(&plan_file, input.plan_bytes()).expect("a file");
+        let printed = run(Command::new(&program).arg(&set_file).arg(&plan_file));
+        assert_eq!(printed, expected(&input.set_bytes(), &input.plan_bytes()));
+    }
+}
+
+#[test]
+fn the_header_is_c_and_cpp() {
+    for (language, standard) in [("c", "-std=c99"), ("c", "-std=c11"), ("c++", "-std=c++11")] {
+        run(compiler().args(["-fsyntax-only", "-x", language, standard]).arg(file("include/club.h")));
+    }
+}
