@@ -12,13 +12,13 @@ use borrow.Author.Tests.{ne-eqb}
 use Rattle.algebra.specs.Lists.{if_then_else_, flip, member}
 use Rattle.algebra.specs.Cells.{ne, lt, le, gt, ge, turn}
 use Rattle.algebra.specs.Plans.{Tables, columnsOf, test, turned, Unary, select, project, distinct, group, sort, Binary, quant, fold, semi, pair, Plan, one, two, columns}
-use Rattle.algebra.specs.Places.{Operator, leafNode, unaryNode, binaryNode, size, flatten}
+use Rattle.algebra.specs.Places.{unaryNode, binaryNode, size, flatten}
 use Rattle.algebra.specs.Rules.{top, unlinked, link, linkBy, linkOf, isEqual, avoids, toSemi, toPair, u1, u5, Link as KeyLink}
 use Rattle.reading.specs.Plan.{nodeAt, nodesOf}
 use Rattle.reading.specs.Tree.{comparisonOf, nodeTest, nodeAggregate, operatorBy, operatorOf, operatorAt, planAt, wholeTree}
 use Rattle.reading.specs.Encoding.{markByte, nodeBytes}
 use Rattle.reading.specs.declared.plan.Node.{Node}
-use Rattle.reading.proofs.Operators.{by-kind, kind-above}
+use Rattle.reading.proofs.Operators.{by-kind}
 use Rattle.reading.proofs.Trees.{plan-case}
 use Rattle.reading.proofs.Ends.{endAt}
 use Rattle.reading.proofs.Places.{flatMap-joined}
@@ -30,6 +30,7 @@ use Rattle.unnesting.specs.declared.change.Change.{Change}
 use Rattle.unnesting.specs.declared.change.Shape.{Shape}
 use Rattle.unnesting.specs.declared.join.Link.the-variants.{None, Keys}
 use Rattle.unnesting.proofs.AllowedNodes.{AllowedNode, allowed-node}
+use Rattle.unnesting.proofs.CountLaws.{selects, other-kind}
 use Rattle.unnesting.proofs.ImageLaws.{keyed-image, pair-image}
 use Rattle.unnesting.proofs.PlaceLaws.{slice-at, two-at, one-at}
 
@@ -76,22 +77,6 @@ module _ {first second : List ℕ} {a b : ℕ} {straight : Bool} (s : Stand firs
 
 -- ---- the link of the tree at a place
 
-abbrev isSelect : Operator → Bool
-isSelect (leafNode x) = false
-isSelect (unaryNode (select t)) = true
-isSelect (unaryNode (project ids)) = false
-isSelect (unaryNode (distinct ids)) = false
-isSelect (unaryNode (group g n l r c t)) = false
-isSelect (unaryNode (sort d ids)) = false
-isSelect (binaryNode b) = false
-
-select-kind : (node : Node) (k : ℕ) → (k ≡ 2 → ⊥) → isSelect (operatorBy k node) ≡ false
-unfolding operatorBy
-select-kind node =
-    by-kind (λ k. (k ≡ 2 → ⊥) → isSelect (operatorBy k node) ≡ false)
-    (λ d. refl) (λ d. refl) (λ d. absurd (d refl)) (λ d. refl) (λ d. refl) (λ d. refl) (λ d. refl) (λ d. refl)
-    (λ d. refl) (λ d. refl) (λ d. refl) (λ d. refl) (λ d. refl) (λ d. refl) (λ d. refl) (λ k h d. ap isSelect (kind-above node k h))
-
 abbrev isLink : KeyLink → Bool
 isLink unlinked = false
 isLink (link l r c) = true
@@ -100,10 +85,10 @@ module _ (T : Tables) (e : Plan) (plan : List ℕ) (f : ℕ) (h : f < nodesOf pl
   module _ (node : Node) (is : node ≡ nodeAt plan f) where
     pub link-other : (node .kind ≡ 2 → ⊥) → unlinked ≡ topLink T e (top (planAt plan f))
     link-other d =
-        plan-case plan f (λ op p. isSelect op ≡ false → unlinked ≡ topLink T e (top p)) (λ x q. refl) by (λ b q. refl) h
-        (ap (λ (n : Node). isSelect (operatorOf n)) (sym is) ∙ select-kind node (node .kind) d)
+        plan-case plan f (λ op p. selects op ≡ false → unlinked ≡ topLink T e (top p)) (λ x q. refl) by (λ b q. refl) h
+        (ap (λ (n : Node). selects (operatorOf n)) (sym is) ∙ other-kind node (node .kind) d)
       where
-        by : (u : Unary) → isSelect (unaryNode u) ≡ false → unlinked ≡ topLink T e (top (one u (planAt plan (f + 1))))
+        by : (u : Unary) → selects (unaryNode u) ≡ false → unlinked ≡ topLink T e (top (one u (planAt plan (f + 1))))
         by (select t) q = absurd (true≢false q)
         by (project ids) q = refl
         by (distinct ids) q = refl

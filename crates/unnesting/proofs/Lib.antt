@@ -5,8 +5,8 @@ pub mod ImageLaws
 pub mod PlaceLaws
 pub mod ChangeLaws
 pub mod AllowedNodes
-pub mod JoinLaws
 pub mod CountLaws
+pub mod JoinLaws
 pub mod RuleLaws
 pub mod MoveLaws
 pub mod Widths

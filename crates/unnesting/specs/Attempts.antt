@@ -1,6 +1,6 @@
 -- Plans held as bytes while the rules are tried, one step after another. The contracts of helpers speak of these; trying a step is the
 -- algebra's `attempt`, and the calls' answers are in `Unnest` and `StayNote`. Definitions only.
-use Prim.Native.Nat.{ℕ, _+_, _*_, max, _≤_, _<_}
+use Prim.Native.Nat.{ℕ, _*_, _≤_, _<_}
 use mathlib.Core.Bool.{Bool, true, false}
 use mathlib.Core.Path.{_≡_}
 use mathlib.Core.List.{List}
@@ -10,7 +10,7 @@ use Rattle.algebra.specs.Plans.{Tables, Plan}
 use Rattle.algebra.specs.Places.{modify}
 use Rattle.algebra.specs.Refusals.{need, passes}
 use Rattle.algebra.specs.Rules.{fresh}
-use Rattle.algebra.specs.Steps.{Step, accepted, attempt}
+use Rattle.algebra.specs.Steps.{accepted, attempt}
 use Rattle.algebra.specs.Demand3.{Still}
 use Rattle.reading.specs.TableSet.{tablesOf}
 use Rattle.reading.specs.Encoding.{planBytes}

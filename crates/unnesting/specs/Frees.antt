@@ -1,7 +1,7 @@
 -- The columns that a node names from outside its tree, part by part. The contracts of helpers speak of these; what a tree names from outside
 -- itself is the algebra's `free`. Definitions only.
 use Prim.Native.Nat.{ℕ, zero, suc, _<_}
-use mathlib.Core.Bool.{Bool, true, false, not}
+use mathlib.Core.Bool.{Bool, true, not}
 use mathlib.Core.Path.{_≡_}
 use mathlib.Core.List.{List, [], _∷_, _++_}
 use lib.Dec.{eqb}

@@ -8,6 +8,5 @@ pub mod Counts
 pub mod Unnest
 pub mod Attempts
 pub mod StayNote
-pub mod Notes
 pub mod Demand3
 pub mod Examples

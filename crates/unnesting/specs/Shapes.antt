@@ -1,14 +1,14 @@
 -- What a rule makes of a node's tree, told apart into what the plan alone decides and what rows decide, and the bytes of the plan after it. The
 -- contracts of helpers speak of these; the rules are the algebra's `unnest`. Definitions only.
-use Prim.Native.Nat.{ℕ, zero, suc, _+_, _*_, _-_, _≤_, _<_}
+use Prim.Native.Nat.{ℕ, _+_, _*_, _-_, _≤_, _<_}
 use mathlib.Core.Bool.{Bool, true, false, not, cond}
 use mathlib.Core.Path.{_≡_}
-use mathlib.Core.List.{List, [], _∷_, _++_}
+use mathlib.Core.List.{List, [], _++_}
 use mathlib.Core.Option.{Option, none, some}
 use lib.Dec.{eqb}
-use lib.ListN.{length, take, drop}
+use lib.ListN.{take, drop}
 use Rattle.algebra.specs.Lists.{if_then_else_, isEmpty, flatMap}
-use Rattle.algebra.specs.Plans.{Tables, isPlain, Unary, Binary, cross, semi, quant, fold, each, pair, Plan, leaf, one, two, eval}
+use Rattle.algebra.specs.Plans.{Tables, isPlain, cross, semi, quant, fold, each, pair, Plan, leaf, one, two, eval}
 use Rattle.algebra.specs.Places.{Operator, leafNode, unaryNode, binaryNode, size, flatten}
 use Rattle.algebra.specs.Names.{closed}
 use Rattle.algebra.specs.Rules.{outside, sequenced, Sequence, top, bare, onlyOf, when, u1, u3, u5, u6, u7}

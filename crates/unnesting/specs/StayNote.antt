@@ -10,6 +10,8 @@ use Rattle.reading.specs.TableSet.{tablesOf}
 use Rattle.reading.specs.Tree.{planOf}
 use Rattle.reading.specs.Check.{orNext, inputRefusal}
 use Rattle.reporting.specs.Report.{scratchNumber, scratchAfter}
+use Rattle.unnesting.specs.declared.stay_note.StayNote.{StayNote}
+use Rattle.unnesting.specs.declared.stay_note.StayNote.the-variants.{Refused, None, Position}
 
 -- The number of the call whose scratch has so many cells: 1 to 14, which are reading's, then 16 by the given plan's need.
 unfoldable pub stayNumber : List ℕ → List ℕ → ℕ → ℕ
@@ -40,3 +42,17 @@ pub record StayNoted (set plan : List ℕ) (place : ℕ) (scratch scratch′ : L
   pub number : refusal ≡ stayNumber set plan (length scratch)
   pub position : Allowed (dueAfter (stayNumber set plan (length scratch)) (noteDue set plan place)) note
   pub cleared : scratch′ ≡ scratchAfter (inputRefusal set plan) scratch
+
+-- ---- the number and the note of an answer
+
+-- the refusal's number; 0 where nothing is turned back
+abbrev pub noteNumber : StayNote → ℕ
+noteNumber (Refused number) = number
+noteNumber None = 0
+noteNumber (Position position) = 0
+
+-- the note
+abbrev pub notePosition : StayNote → Option ℕ
+notePosition (Refused number) = none
+notePosition None = none
+notePosition (Position position) = some position

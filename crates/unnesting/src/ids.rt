@@ -1,8 +1,8 @@
 // The smallest id introduced nowhere in a plan: a set of ids as four words of 64 bits.
 ghost use mathlib.Core.Path.{_≡_};
 ghost use mathlib.Core.Bool.{true};
-ghost use mathlib.Core.List.{List, [], _∷_};
-ghost use Prim.Native.Nat.{ℕ, _<_, _≤_};
+ghost use mathlib.Core.List.{[], _∷_};
+ghost use Prim.Native.Nat.{_<_, _≤_};
 ghost use Rattle.algebra.specs.Lists.{upward};
 ghost use Rattle.algebra.specs.Rules.{fresh};
 ghost use Rattle.reading.specs.TableSet.{tablesOf};

@@ -1,5 +1,6 @@
-// Unnesting: the eight rules at the places of a plan. Here stands what the rules ask of a plan and write: a free id, what a tree names from
-// outside itself, and a node's bytes. The answers of the calls and demand 3 are defined in specs/.
+// Unnesting: the eight rules at the places of a plan's bytes, and the two calls. `shape` says what the rule at a place makes of the plan, so far
+// as the plan alone decides (`join`, `count`, by `free` and `ids`), `sequence` what rows decide, `change` writes the plan after it (`image`),
+// `step` tries a place and finds the smallest that fits, `run` goes on until none does.
 mod change;
 mod count;
 mod free;

@@ -1,4 +1,4 @@
-// The two sequences that U3, U4 and U6 compare, and whether what rows decide stands for a rule.
+// The two sequences that U3, U4 and U6 compare, and whether rows stand against a rule.
 ghost use mathlib.Core.Path.{_≡_};
 ghost use mathlib.Core.Bool.{not, true};
 ghost use mathlib.Core.Logic.{_≢_};
@@ -154,7 +154,7 @@ fn gives_row(set: &[u8], plan: &[u8], f: usize, scratch: &mut [u32]) -> bool
     given.rows != 0
 }
 
-// Whether what rows decide stands for the rule at place i.
+// Whether rows do not stand against the rule at place i.
 pub(crate) fn ready_at(set: &[u8], plan: &[u8], i: usize, node: Node, scratch: &mut [u32]) -> bool
     requires { ⌜ inputRefusal (now set) (now plan) ≡ 0 ⌝ }
     requires { ⌜ need (tablesOf (now set)) (planOf (now plan)) ≤ length (now scratch) ⌝ }

@@ -1,14 +1,12 @@
 // The stay note call.
 ghost use mathlib.Core.Path.{_≡_};
-ghost use mathlib.Core.Bool.{true};
 ghost use Prim.Native.Nat.{_≤_};
 ghost use lib.ListN.{length};
-ghost use Rattle.algebra.specs.Refusals.{need, passes};
+ghost use Rattle.algebra.specs.Refusals.{need};
 ghost use Rattle.reading.specs.TableSet.{tablesOf};
 ghost use Rattle.reading.specs.Tree.{planOf};
 ghost use Rattle.reading.specs.Check.{inputRefusal};
-ghost use Rattle.unnesting.specs.StayNote.{Allowed, StayNoted, noteDue};
-ghost use Rattle.unnesting.specs.Notes.{noteNumber, notePosition};
+ghost use Rattle.unnesting.specs.StayNote.{Allowed, StayNoted, noteDue, noteNumber, notePosition};
 use crate::sequence::Compared;
 use crate::sequence::compares;
 use crate::sequence::sequences_at;

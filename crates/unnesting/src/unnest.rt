@@ -1,8 +1,7 @@
 // The unnesting call.
 ghost use mathlib.Core.Path.{_≡_};
-ghost use mathlib.Core.Bool.{true};
 ghost use lib.ListN.{length};
-ghost use Rattle.algebra.specs.Refusals.{need, passes};
+ghost use Rattle.algebra.specs.Refusals.{need};
 ghost use Rattle.reading.specs.TableSet.{tablesOf};
 ghost use Rattle.reading.specs.Tree.{planOf};
 ghost use Rattle.reading.specs.Check.{inputRefusal};
