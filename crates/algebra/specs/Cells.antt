@@ -1,7 +1,7 @@
 -- Cells, comparisons and aggregates (paper 01, "The set of tables" and "The plan"). Definitions only.
 -- A cell is held as its signed 32-bit code plus 2^31, so that the order of cells is the order of codes.
-use Prim.Native.Nat.{ℕ, zero, suc, _+_, _*_, _-_, min, max}
-use mathlib.Core.Bool.{Bool, true, false, not, cond, _&&_}
+use Prim.Native.Nat.{ℕ, _+_, _*_, _-_, min, max}
+use mathlib.Core.Bool.{Bool, not, cond, _&&_}
 use mathlib.Core.List.{List, [], _∷_, foldr}
 use lib.Dec.{eqb, ltb, leb}
 use lib.ListN.{length}

@@ -2,7 +2,7 @@
 use Prim.Native.Nat.{ℕ, _+_, _≤_, _<_}
 use mathlib.Core.Path.{_≡_}
 use mathlib.Core.List.{List, [], _∷_}
-use mathlib.Core.Option.{Option, none, some}
+use mathlib.Core.Option.{none, some}
 use Rattle.algebra.specs.Plans.{Env, Tables, Plan, columns, eval}
 use Rattle.algebra.specs.Steps.{weight, Step, attempt, after, fitted}
 

@@ -5,7 +5,7 @@ use mathlib.Core.Bool.{Bool, true, false}
 use mathlib.Core.List.{List, [], _∷_, _++_}
 use Rattle.algebra.specs.Lists.{minus, isEmpty}
 use Rattle.algebra.specs.Cells.{Aggregate, count, over}
-use Rattle.algebra.specs.Plans.{Tables, Test, names, Leaf, Unary, select, project, distinct, group, sort, Binary, cross, semi, quant, fold, each, pair, Plan, leaf, one, two, nested, columns, leafColumns}
+use Rattle.algebra.specs.Plans.{Tables, names, Unary, select, project, distinct, group, sort, Binary, cross, semi, quant, fold, each, pair, Plan, leaf, one, two, nested, columns, leafColumns}
 
 -- ---- named from outside
 abbrev pub measured : Aggregate → List ℕ

@@ -1,8 +1,8 @@
 -- Places: a node's number in pre-order, from 0 (paper 01, "The plan"). Definitions only.
 use Prim.Native.Nat.{ℕ, zero, suc, _+_, _-_}
-use mathlib.Core.Bool.{Bool, true, false, cond}
+use mathlib.Core.Bool.{cond}
 use mathlib.Core.List.{List, [], _∷_, _++_}
-use mathlib.Core.Option.{Option, none, some, Option·map}
+use mathlib.Core.Option.{Option, none, Option·map}
 use lib.Dec.{ltb}
 use Rattle.algebra.specs.Plans.{Leaf, Unary, Binary, Plan, leaf, one, two}
 

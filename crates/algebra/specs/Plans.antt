@@ -1,11 +1,11 @@
 -- Plans: trees of steps over tables, the columns and the rows that they give (paper 01, "The plan"). Definitions only.
 -- The rows that a plan is nested in are an environment: the value of each column id. Every operator reads columns through it.
-use Prim.Native.Nat.{ℕ, zero, suc, _+_, _*_, _-_, _≤_, _<_}
-use mathlib.Core.Bool.{Bool, true, false, not, cond, _&&_, _||_}
+use Prim.Native.Nat.{ℕ}
+use mathlib.Core.Bool.{Bool, true, false, not, cond, _&&_}
 use mathlib.Core.List.{List, [], _∷_, _++_, map}
 use lib.Dec.{eqb, ltb}
 use lib.ListN.{length, replicate}
-use Rattle.algebra.specs.Lists.{flip, filter, any, all, flatMap, sorted, member, minus, isEmpty, same, firsts, upward}
+use Rattle.algebra.specs.Lists.{flip, filter, any, all, flatMap, sorted, firsts, upward}
 use Rattle.algebra.specs.Cells.{Comparison, eq, Aggregate, count, over, blank, compares, aggregate}
 
 abbrev pub Row : Type 0

@@ -1,13 +1,13 @@
 -- The row bound, the need, and the refusals 8 to 14 of a plan as a tree (paper 01, "The plan" and "Turned-back input"). Definitions only.
 -- The reading call meets 11 to 14 by `refusal`, and the unnestings ask the plan after them to pass by the same definition.
-use Prim.Native.Nat.{ℕ, zero, suc, _+_, _*_, max}
+use Prim.Native.Nat.{ℕ, _+_, _*_, max}
 use mathlib.Core.Bool.{Bool, true, false, not, _&&_}
 use mathlib.Core.List.{List, [], _∷_, _++_, map}
 use lib.Dec.{eqb, ltb, leb}
 use lib.ListN.{length}
 use Rattle.algebra.specs.Lists.{if_then_else_, every, all, total, member, unique, within}
 use Rattle.algebra.specs.Cells.{Aggregate, count, over, inRange}
-use Rattle.algebra.specs.Plans.{Tables, Form, always, columnsOf, numberOf, Test, test, names, formNames, Leaf, unit, scan, Unary, select, project, distinct, group, sort, Binary, cross, semi, quant, fold, each, pair, Plan, leaf, one, two, nested, columns}
+use Rattle.algebra.specs.Plans.{Tables, Form, always, columnsOf, numberOf, Test, test, names, Leaf, unit, scan, Unary, select, project, distinct, group, sort, Binary, cross, semi, quant, fold, each, pair, Plan, leaf, one, two, nested, columns}
 use Rattle.algebra.specs.Places.{Operator, leafNode, unaryNode, binaryNode, size, flatten, subtrees}
 use Rattle.algebra.specs.Names.{measured, introduced}
 

@@ -1,13 +1,13 @@
 -- The eight unnestings (paper 01, "The eight unnestings"). Definitions only.
 -- e and f are a node's first and second child. U1 and U2 are one definition with a mark, and so are U3 and U4.
-use Prim.Native.Nat.{ℕ, zero, suc, _+_, _-_}
-use mathlib.Core.Bool.{Bool, true, false, not, cond, _&&_, _||_}
-use mathlib.Core.List.{List, [], _∷_, _++_, map}
-use mathlib.Core.Option.{Option, none, some, Option·map}
-use lib.Dec.{eqb, ltb}
-use Rattle.algebra.specs.Lists.{every, filter, all, member, isEmpty, sameRows, flatMap, upward}
+use Prim.Native.Nat.{ℕ, zero, suc}
+use mathlib.Core.Bool.{Bool, true, false, not, cond, _&&_}
+use mathlib.Core.List.{List, [], _∷_}
+use mathlib.Core.Option.{Option, none, some}
+use lib.Dec.{eqb}
+use Rattle.algebra.specs.Lists.{every, all, member, isEmpty, sameRows}
 use Rattle.algebra.specs.Cells.{Comparison, eq, ne, lt, le, gt, ge, turn, Aggregate, count, origin}
-use Rattle.algebra.specs.Plans.{Env, Tables, Form, always, columnsOf, numberOf, Test, test, plain, isPlain, names, turned, Unary, select, project, distinct, group, sort, Binary, cross, semi, quant, fold, each, pair, Plan, leaf, one, two, columns, eval}
+use Rattle.algebra.specs.Plans.{Env, Tables, always, columnsOf, numberOf, Test, test, plain, isPlain, names, turned, select, project, distinct, group, sort, cross, semi, quant, fold, each, pair, Plan, leaf, one, two, columns, eval}
 use Rattle.algebra.specs.Names.{free, closed, introduced}
 use Rattle.algebra.specs.Places.{look}
 

@@ -1,10 +1,10 @@
 -- Stay notes: where U3, U4 or U6 fails only because the sequences differ (paper 01, "The eight unnestings"). Definitions only.
 use Prim.Native.Nat.{ℕ}
-use mathlib.Core.Bool.{Bool, true, false, not, cond, _||_}
+use mathlib.Core.Bool.{Bool, not, cond, _||_}
 use mathlib.Core.List.{List, [], _∷_}
 use mathlib.Core.Option.{Option, none, some}
 use lib.Dec.{eqb}
-use Rattle.algebra.specs.Plans.{Row, Tables, distinct, Unary, Binary, cross, semi, quant, fold, each, pair, Plan, leaf, one, two, eval}
+use Rattle.algebra.specs.Plans.{Row, Tables, distinct, cross, semi, quant, fold, each, pair, Plan, leaf, one, two, eval}
 use Rattle.algebra.specs.Places.{modify, look}
 use Rattle.algebra.specs.Rules.{outside, sequenced, Sequence, top, bare, ruleOf, unnest, fresh}
 use Rattle.algebra.specs.Steps.{accepted}

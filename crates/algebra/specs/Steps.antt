@@ -1,9 +1,9 @@
 -- Weight, trying a step, lists of steps, and the run (paper 01, "The eight unnestings"). Definitions only.
 use Prim.Native.Nat.{ℕ, zero, suc, _+_}
-use mathlib.Core.Bool.{Bool, true, false, cond}
-use mathlib.Core.List.{List, [], _∷_, _++_}
+use mathlib.Core.Bool.{cond}
+use mathlib.Core.List.{List, [], _∷_}
 use mathlib.Core.Option.{Option, none, some, Option·map}
-use Rattle.algebra.specs.Plans.{Tables, isPlain, Unary, Binary, cross, semi, quant, fold, each, pair, Plan, leaf, one, two}
+use Rattle.algebra.specs.Plans.{Tables, isPlain, Binary, cross, semi, quant, fold, each, pair, Plan, leaf, one, two}
 use Rattle.algebra.specs.Places.{size, modify}
 use Rattle.algebra.specs.Refusals.{passes}
 use Rattle.algebra.specs.Rules.{when, sequenced, rule, fresh}

@@ -1,5 +1,5 @@
 -- How the listing prints a cell (paper 01, "Tried examples"). Definitions only.
-use Prim.Native.Nat.{ℕ, suc}
+use Prim.Native.Nat.{suc}
 use lib.Dec.{eqb}
 use lib.IntN.{ℤ, pos, negsuc}
 use Rattle.algebra.specs.Lists.{if_then_else_}

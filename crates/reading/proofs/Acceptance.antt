@@ -1,8 +1,8 @@
 -- The whole check by its parts, and what acceptance gives. Assumes nothing.
 use Prim.Native.Nat.{ℕ, zero, suc, _+_, _*_, _≤_, _<_}
-use mathlib.Core.Bool.{Bool, true, false, not, _&&_, true≢false, false≢true, and-eq-true-iff}
+use mathlib.Core.Bool.{Bool, true, false, not, _&&_, and-eq-true-iff}
 use mathlib.Core.Path.{_≡_, refl, ap, sym, _∙_, subst}
-use mathlib.Core.List.{List, [], _∷_, _++_, map}
+use mathlib.Core.List.{List, [], _∷_, map}
 use native.Mathlib.Omega.{arith}
 use native.Mathlib.Nat.{mul-le-mul}
 use lib.Dec.{eqb, ltb, leb}
@@ -10,11 +10,11 @@ use lib.ListN.{length, drop}
 use borrow.Author.Tests.{leb-true}
 use Rattle.algebra.specs.Lists.{if_then_else_, all, total}
 use Rattle.algebra.specs.Plans.{Tables, Plan}
-use Rattle.algebra.specs.Places.{size, flatten, subtrees}
+use Rattle.algebra.specs.Places.{flatten, subtrees}
 use Rattle.algebra.specs.Names.{introduced}
 use Rattle.algebra.specs.Refusals.{refusal, need, region, bound, width, found, once, inView, narrow, low}
 use Rattle.algebra.proofs.Places.{subtrees-length}
-use Rattle.algebra.proofs.Refusals.{Unrefused, refusal-none, refusal-0, refusal-11, refusal-12, refusal-13, refusal-14}
+use Rattle.algebra.proofs.Refusals.{refusal-none, refusal-0, refusal-11, refusal-12, refusal-13, refusal-14}
 use Rattle.reading.specs.Bytes.{startsWith, allBelow}
 use Rattle.reading.specs.TableSet.{tableMark, sizeAllowed, cellBytes, cellsOf, cellsAllowed, readTable, readFrom, readSet, afterTable, amountOf, tablesOf}
 use Rattle.reading.specs.Plan.{readPlan, nodesOf, planMark, nodesAllowed}
@@ -27,7 +27,6 @@ use Rattle.reading.specs.declared.set.TableRead.{TableRead}
 use Rattle.reading.specs.declared.set.TableRead.the-variants.{Whole, Bad}
 use Rattle.reading.specs.declared.plan.PlanRead.{PlanRead}
 use Rattle.reading.specs.declared.plan.PlanRead.the-variants.{Nodes, Refused as PlanRefused}
-use Rattle.reading.specs.declared.input.Checked.{Checked}
 use Rattle.reading.specs.declared.input.Checked.the-variants.{Accepted, Refused as InputRefused}
 use Rattle.reading.proofs.Places.{whole-size, whole-found, whole-introduced, whole-all}
 use Rattle.reading.proofs.PlanBytes.{plan-known}

@@ -6,7 +6,6 @@ use native.Mathlib.Omega.{arith}
 use native.Mathlib.Decide.{ℕ-discrete}
 use lib.Dec.{eqb}
 use borrow.Author.Tests.{eq-eqb, ne-eqb}
-use Rattle.algebra.specs.Plans.{one}
 use Rattle.algebra.specs.Places.{size}
 use Rattle.reading.specs.Plan.{nodeAt, nodesOf, kindEntry}
 use Rattle.reading.specs.Tree.{operatorAt, planAt}

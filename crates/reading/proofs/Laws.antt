@@ -1,22 +1,21 @@
 -- Laws of the definitions of specs/, over plain lists and numbers, which the functions' proofs cite. Assumes nothing.
-use Prim.Native.Nat.{ℕ, zero, suc, _+_, _-_, _*_, _/_, _≤_, _<_}
+use Prim.Native.Nat.{ℕ, zero, suc, _+_, _-_, _/_, _≤_, _<_}
 use native.Mathlib.Omega.{arith}
-use native.Mathlib.Nat.{le-refl, mul-le-mul}
+use native.Mathlib.Nat.{le-refl}
 use native.Mathlib.Decide.{decLt}
 use native.Mathlib.Numerals.{add-one}
-use mathlib.Core.Path.{_≡_, refl, sym, ap, subst, _∙_}
+use mathlib.Core.Path.{_≡_, refl, sym}
 use mathlib.Core.Bool.{Bool, true, false, _&&_, and-false, not, false≢true}
-use mathlib.Core.List.{List, [], _∷_}
-use lib.ListN.{length, getD, take, drop, length-drop, drop-of-length-le, List·getD-eq-default}
+use mathlib.Core.List.{List}
+use lib.ListN.{length, getD, take, drop, length-drop, drop-of-length-le}
 use lib.Dec.{ltb, eqb}
 use lib.Seq.{take-all, drop-cons, drop-drop}
 use borrow.Author.Tests.{eq-eqb, ne-eqb}
 use Rattle.algebra.specs.Lists.{if_then_else_}
 use Rattle.reading.specs.Bytes.{allBelow}
-use borrow.Author.Tests.{lt-ltb, le-ltb, leb-true, leb-false, ltb-true, ltb-false, not-false}
-use Rattle.reading.specs.Bytes.{startsWith, byteAt}
+use borrow.Author.Tests.{lt-ltb, le-ltb, ltb-false, not-false}
+use Rattle.reading.specs.Bytes.{startsWith}
 use Rattle.reading.specs.TableSet.{tableMark, sizeAllowed, cellBytes, cellsOf, cellAt, cellAllowed, cellsAllowed, readTable, readFrom, readSet, afterTable, tableFrom}
-use Rattle.reading.specs.declared.set.SetRead.{SetRead}
 use Rattle.reading.specs.declared.set.SetRead.the-variants.{Holds, Refused}
 use Rattle.reading.specs.declared.set.TableRead.{TableRead}
 use Rattle.reading.specs.declared.set.TableRead.the-variants.{Whole, Bad}

@@ -2,11 +2,10 @@
 use Prim.Native.Nat.{ℕ, zero, suc, _+_, _*_, _≤_, _<_}
 use lib.ListN.{List·getD-eq-default}
 use mathlib.Core.Path.{_≡_, refl, ap, sym, _∙_}
-use mathlib.Core.List.{List, [], _∷_}
 use native.Mathlib.Omega.{arith}
 use borrow.Author.Tests.{ne-eqb}
 use Rattle.algebra.specs.Plans.{unit}
-use Rattle.algebra.specs.Places.{Operator, leafNode, unaryNode, binaryNode}
+use Rattle.algebra.specs.Places.{leafNode}
 use Rattle.reading.specs.Plan.{kindTable, kindEntry}
 use Rattle.reading.specs.Tree.{operatorBy, operatorOf}
 use Rattle.reading.specs.Nodes.{arity}

@@ -1,17 +1,16 @@
 -- The tree at a place of a plan: the node there with its children's trees. Assumes nothing.
-use Prim.Native.Nat.{ℕ, zero, suc, _+_, _-_, _≤_, _<_, min}
-use mathlib.Core.Bool.{Bool, true, false}
-use mathlib.Core.Path.{_≡_, refl, ap, sym, _∙_, subst, fun-ext}
-use mathlib.Core.List.{List, [], _∷_}
+use Prim.Native.Nat.{ℕ, zero, suc, _+_, _≤_, _<_, min}
+use mathlib.Core.Bool.{true}
+use mathlib.Core.Path.{_≡_, refl, ap, sym, _∙_, fun-ext}
+use mathlib.Core.List.{List}
 use native.Mathlib.Omega.{arith}
-use native.Mathlib.Numerals.{add-one}
 use native.Mathlib.Decide.{decLe}
 use lib.Dec.{ltb}
 use borrow.Author.Tests.{lt-ltb, le-ltb}
 use Rattle.algebra.specs.Plans.{Leaf, unit, Unary, Binary, Plan, leaf, one, two}
 use Rattle.algebra.specs.Places.{Operator, leafNode, unaryNode, binaryNode, size}
 use Rattle.reading.specs.Plan.{nodesOf}
-use Rattle.reading.specs.Tree.{operatorAt, grown, joined, treeAt, planAt}
+use Rattle.reading.specs.Tree.{operatorAt, grown, treeAt, planAt}
 
 -- more depth than there are nodes left changes nothing
 deeper : (plan : List ℕ) (n d i : ℕ) → n ≤ i + d → treeAt (suc d) plan n i ≡ treeAt d plan n i

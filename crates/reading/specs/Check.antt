@@ -1,7 +1,6 @@
 -- The whole of reading: what a set and a plan are turned back for, and what they give where they are not (paper 01, "Turned-back input").
 -- Definitions only.
 use Prim.Native.Nat.{ℕ, zero, suc}
-use mathlib.Core.Bool.{Bool, true, false, not}
 use mathlib.Core.List.{List}
 use Rattle.algebra.specs.Lists.{if_then_else_}
 use Rattle.algebra.specs.Refusals.{refusal, need}

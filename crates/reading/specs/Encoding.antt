@@ -1,11 +1,11 @@
 -- The bytes of a plan's tree (paper 01, "The plan"). Definitions only.
-use Prim.Native.Nat.{ℕ, zero, suc, _+_, _*_, _/_, _%_, _^_}
+use Prim.Native.Nat.{ℕ, _+_, _/_, _%_}
 use mathlib.Core.Bool.{Bool, true, false}
 use mathlib.Core.List.{List, [], _∷_, _++_}
 use lib.ListN.{length, take, replicate}
 use Rattle.algebra.specs.Lists.{flatMap}
-use Rattle.algebra.specs.Cells.{Comparison, eq, ne, lt, le, gt, ge, Summary, sum, least, greatest, Aggregate, count, over}
-use Rattle.algebra.specs.Plans.{Form, always, columnsOf, numberOf, Test, test, Leaf, unit, scan, Unary, select, project, distinct, group, sort, Binary, cross, semi, quant, fold, each, pair, Plan}
+use Rattle.algebra.specs.Cells.{Comparison, eq, ne, lt, le, gt, ge, sum, least, greatest, Aggregate, count, over}
+use Rattle.algebra.specs.Plans.{always, columnsOf, numberOf, Test, test, Leaf, unit, scan, Unary, select, project, distinct, group, sort, Binary, cross, semi, quant, fold, each, pair, Plan}
 use Rattle.algebra.specs.Places.{Operator, leafNode, unaryNode, binaryNode, size, flatten}
 use Rattle.reading.specs.TableSet.{wordOf}
 use Rattle.reading.specs.Plan.{planMark}

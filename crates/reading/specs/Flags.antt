@@ -1,8 +1,8 @@
 -- What 256 flags say of a list of ids. The contracts of helpers speak of them; no call of paper 01 does.
 use Prim.Native.Nat.{ℕ, _<_}
-use mathlib.Core.Bool.{Bool, true, false}
+use mathlib.Core.Bool.{Bool, true}
 use mathlib.Core.Path.{_≡_}
-use mathlib.Core.List.{List, [], _∷_, _++_}
+use mathlib.Core.List.{List, _++_}
 use lib.ListN.{length, getD}
 use Rattle.algebra.specs.Lists.{if_then_else_, member, within}
 use Rattle.algebra.specs.Refusals.{once, listInView}

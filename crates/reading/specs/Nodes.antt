@@ -1,12 +1,12 @@
 -- What one node does, apart from its children's trees. The contracts of helpers speak of these; the definitions of whole plans are the algebra's.
-use Prim.Native.Nat.{ℕ, zero, suc, _+_, _*_, max}
+use Prim.Native.Nat.{ℕ, zero, suc, _+_, _*_}
 use mathlib.Core.Bool.{Bool, true, false}
 use mathlib.Core.Path.{_≡_}
 use mathlib.Core.List.{List, [], _∷_, _++_}
 use lib.ListN.{length}
 use lib.Dec.{eqb}
 use Rattle.algebra.specs.Lists.{if_then_else_, flatMap, upward}
-use Rattle.algebra.specs.Plans.{Tables, Leaf, Unary, select, project, distinct, group, sort, formNames, Binary, cross, semi, quant, fold, each, pair, Plan, leaf, one, two, leafColumns, unaryColumns, binaryColumns, columns, nested}
+use Rattle.algebra.specs.Plans.{Tables, Unary, select, project, distinct, group, sort, formNames, Binary, cross, semi, quant, fold, each, pair, Plan, leaf, one, two, leafColumns, unaryColumns, binaryColumns, columns, nested}
 use Rattle.algebra.specs.Places.{Operator, leafNode, unaryNode, binaryNode}
 use Rattle.algebra.specs.Names.{measured, unaryNew, binaryNew}
 use Rattle.algebra.specs.Refusals.{leafBound, perRow, unaryInView, binaryInView, found, inView}

@@ -1,7 +1,7 @@
 -- The plan's bytes (paper 01, "The plan", and the numbers 6 to 9 of "Turned-back input").
 -- A plan is a list of bytes: 6 bytes of header, then 24 bytes for each node. Definitions only.
 use Prim.Native.Nat.{ℕ, _+_, _*_}
-use mathlib.Core.Bool.{Bool, true, false, _&&_, _||_, not}
+use mathlib.Core.Bool.{Bool, _&&_, _||_, not}
 use mathlib.Core.List.{List, [], _∷_}
 use lib.ListN.{length, take, drop}
 use lib.Dec.{leb, ltb, eqb}

@@ -1,11 +1,11 @@
 -- The tree of a plan's nodes (paper 01, "The plan", and number 10 of "Turned-back input"). Definitions only.
-use Prim.Native.Nat.{ℕ, zero, suc, _+_, _*_}
+use Prim.Native.Nat.{ℕ, zero, suc, _+_}
 use mathlib.Core.Bool.{Bool, true, false}
-use mathlib.Core.List.{List, [], _∷_}
+use mathlib.Core.List.{List}
 use lib.Dec.{ltb, eqb}
 use Rattle.algebra.specs.Lists.{if_then_else_}
 use lib.ListN.{take}
-use Rattle.algebra.specs.Cells.{Comparison, eq, ne, lt, le, gt, ge, Summary, sum, least, greatest, Aggregate, count, over}
+use Rattle.algebra.specs.Cells.{Comparison, eq, ne, lt, le, gt, ge, sum, least, greatest, Aggregate, count, over}
 use Rattle.algebra.specs.Plans.{Form, always, columnsOf, numberOf, test, Test as MarkedTest, unit, scan, select, project, distinct, group, sort, Binary, cross, semi, quant, fold, each, pair, Plan, leaf, one, two}
 use Rattle.algebra.specs.Places.{Operator, leafNode, unaryNode, binaryNode, size}
 use Rattle.reading.specs.Plan.{nodeAt, nodesOf}

@@ -1,6 +1,5 @@
 // 256 flags for the ids 0 to 255.
-ghost use mathlib.Core.Path.{_≡_};
-ghost use mathlib.Core.List.{List, [], _∷_};
+ghost use mathlib.Core.List.{[], _∷_};
 ghost use Prim.Native.Nat.{_≤_, _<_};
 ghost use Rattle.algebra.specs.Lists.{upward};
 ghost use Rattle.reading.specs.Flags.{Marks, Adds};

@@ -1,6 +1,5 @@
 // The whole of reading: the refusals 1 to 14 of a set and a plan.
 ghost use mathlib.Core.Path.{_≡_};
-ghost use mathlib.Core.Bool.{true};
 ghost use Rattle.reading.specs.TableSet.{readSet};
 ghost use Rattle.reading.specs.Plan.{readPlan};
 ghost use Rattle.reading.specs.Check.{checkOf};

@@ -1,7 +1,6 @@
 // The need in cells: over all nodes, the sum of bound × columns, plus 4,096 cells of scratch.
 ghost use mathlib.Core.Path.{_≡_};
 ghost use mathlib.Core.Bool.{true};
-ghost use Prim.Native.Nat.{_≤_};
 ghost use Rattle.algebra.specs.Refusals.{narrow, low, need};
 ghost use Rattle.reading.specs.Bytes.{allBelow};
 ghost use Rattle.reading.specs.TableSet.{tablesOf};

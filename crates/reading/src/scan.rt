@@ -1,5 +1,4 @@
 // Refusal 11: each Scan's table is there.
-ghost use mathlib.Core.Path.{_≡_};
 ghost use Rattle.reading.specs.Tree.{operatorOf};
 ghost use Rattle.reading.specs.Nodes.{TableFound, TablesFound};
 use crate::plan::Node;

@@ -1,8 +1,8 @@
 // Refusal 12, its second half: every column that a node names is in view.
 ghost use mathlib.Core.Path.{_≡_};
-ghost use mathlib.Core.List.{List, _∷_};
+ghost use mathlib.Core.List.{_∷_};
 ghost use lib.ListN.{take};
-ghost use Prim.Native.Nat.{_<_, min};
+ghost use Prim.Native.Nat.{_<_};
 ghost use Rattle.algebra.specs.Names.{measured};
 ghost use Rattle.algebra.specs.Plans.{columns, formNames};
 ghost use Rattle.reading.specs.TableSet.{tablesOf};

@@ -1,13 +1,12 @@
 -- Rows in cells: `chunk k w xs` reads k rows of w cells. Assumes nothing.
 use mathlib.Core.Path.{_≡_, refl, sym, ap, _∙_, subst}
-use mathlib.Core.Bool.{Bool, true, false, cond}
-use mathlib.Core.List.{List, [], _∷_, _++_, append-assoc, append-nil}
+use mathlib.Core.List.{List, [], _∷_, _++_, append-nil}
 use Prim.Native.Nat.{ℕ, zero, suc, _+_, _*_, _-_, _≤_, _<_}
-use native.Mathlib.Nat.{add-zero, zero-add, suc-add, add-suc, zero-mul, suc-mul, mul-le-mul-right, add-comm, add-mul}
+use native.Mathlib.Nat.{zero-add, suc-add, zero-mul, suc-mul, mul-le-mul-right, add-comm, add-mul}
 use native.Mathlib.Numerals.{add-one}
 use native.Mathlib.Omega.{arith}
-use lib.ListN.{length, take, drop, length-append, length-take, length-drop, drop-of-length-le}
-use lib.Seq.{take-all, take-at, drop-at, take-take, drop-drop, take-append-le, drop-append-le, paste, take-paste, drop-paste, length-paste, length-take-le}
+use lib.ListN.{length, take, drop, length-drop, drop-of-length-le}
+use lib.Seq.{take-all, take-at, drop-at, take-take, drop-drop, paste, take-paste, drop-paste, length-take-le}
 use Rattle.algebra.specs.Plans.{Row}
 use Rattle.reporting.specs.Rows.{chunk, Gives}
 

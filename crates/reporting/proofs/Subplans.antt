@@ -1,6 +1,6 @@
 -- What the trees at all places of a whole plan inherit from the plan's own tree. Assumes nothing.
 use Prim.Native.Nat.{ℕ, zero, suc, _+_, _*_, _-_, _≤_, _<_, min}
-use mathlib.Core.Bool.{Bool, true, false}
+use mathlib.Core.Bool.{true, false}
 use mathlib.Core.Path.{_≡_, refl, ap, ap₂, sym, _∙_, subst}
 use mathlib.Core.List.{List, [], _∷_, _++_, append-nil}
 use native.Mathlib.Omega.{arith}
@@ -18,11 +18,11 @@ use Rattle.algebra.specs.Names.{introduced}
 use Rattle.algebra.specs.Refusals.{bound, width, region, need}
 use Rattle.algebra.specs.Rules.{outside}
 use Rattle.algebra.proofs.Places.{size-positive}
-use Rattle.reading.specs.TableSet.{tablesOf, readSet}
+use Rattle.reading.specs.TableSet.{tablesOf}
 use Rattle.reading.specs.Plan.{nodesOf}
 use Rattle.reading.specs.Tree.{planAt, planOf, wholeTree}
 use Rattle.reading.specs.Nodes.{arity}
-use Rattle.reading.specs.Check.{orNext, setNumber, planRefusal, inputRefusal, checkOf}
+use Rattle.reading.specs.Check.{orNext, inputRefusal, checkOf}
 use Rattle.reading.specs.declared.input.Checked.the-variants.{Refused}
 use Rattle.reading.proofs.Trees.{plan-past, plan-case, firstTree, secondTree}
 use Rattle.reading.proofs.Places.{whole-size}

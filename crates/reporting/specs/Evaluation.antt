@@ -1,9 +1,9 @@
 -- What the evaluator asks of a plan's tree and of its cells. Private contracts speak of these. Definitions only.
-use Prim.Native.Nat.{ℕ, _+_, _*_, _≤_}
-use mathlib.Core.Bool.{Bool, true}
+use Prim.Native.Nat.{ℕ, _≤_}
+use mathlib.Core.Bool.{true}
 use mathlib.Core.Path.{_≡_}
-use mathlib.Core.List.{List, [], _∷_, _++_, map}
-use Rattle.algebra.specs.Lists.{all, flatMap, total}
+use mathlib.Core.List.{List, [], map}
+use Rattle.algebra.specs.Lists.{all, total}
 use lib.ListN.{length}
 use Rattle.algebra.specs.Plans.{Row, Env, Tables, Plan, leafColumns, leafRows, columns, bind, eval}
 use Rattle.algebra.specs.Places.{Operator, leafNode, unaryNode, binaryNode, subtrees}

@@ -1,14 +1,13 @@
 -- Rows in cells, environments in words, and what one node does with rows. Private contracts speak of these; the meaning of plans is the
 -- algebra's. Definitions only.
-use Prim.Native.Nat.{ℕ, zero, suc, _+_, _*_, _≤_}
-use mathlib.Core.Bool.{Bool, true, false, not}
+use Prim.Native.Nat.{ℕ, zero, suc, _≤_}
+use mathlib.Core.Bool.{Bool, true}
 use mathlib.Core.Path.{_≡_}
-use mathlib.Core.List.{List, [], _∷_, _++_, foldr}
-use lib.Dec.{eqb}
-use lib.ListN.{length, getD, take, drop}
-use Rattle.algebra.specs.Lists.{filter, any, total, sorted}
-use Rattle.algebra.specs.Cells.{Comparison, eq, Aggregate, count, offScale, blank, Summary, sum, least, greatest, summary}
-use Rattle.algebra.specs.Plans.{Row, Env, Test, holds, Unary, select, project, distinct, group, sort, Binary, cross, semi, quant, fold, each, pair, unaryColumns, binaryColumns, matched, gather, emit, act, cut, precedes}
+use mathlib.Core.List.{List, [], _∷_}
+use lib.ListN.{getD, take, drop}
+use Rattle.algebra.specs.Lists.{sorted}
+use Rattle.algebra.specs.Cells.{eq, Aggregate, count}
+use Rattle.algebra.specs.Plans.{Row, Env, holds, Unary, select, project, distinct, group, sort, Binary, cross, semi, quant, fold, each, pair, unaryColumns, binaryColumns, matched, gather, emit, act, cut, precedes}
 use Rattle.algebra.specs.Places.{Operator, leafNode, unaryNode, binaryNode}
 use Rattle.algebra.specs.Refusals.{perRow}
 

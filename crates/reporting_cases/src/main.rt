@@ -1,7 +1,7 @@
 // Reads cases from standard input and prints what reporting gives for each: a refusal's number, or the counts and the cells of the report,
 // each cell as its code plus 2^31. A case is the set's length and the plan's, 32 bits each, low byte first, then the bytes of both.
 ghost use mathlib.Core.Path.{_≡_};
-ghost use Prim.Native.Nat.{_<_, _≤_};
+ghost use Prim.Native.Nat.{_<_};
 ghost use lib.ListN.{length};
 use libc::STDIN_FILENO;
 use libc::STDOUT_FILENO;

@@ -1,26 +1,26 @@
 -- Steps tried one after another over bytes: what fits at a place, the smallest place, and the run. Assumes nothing.
-use Prim.Native.Nat.{ℕ, zero, suc, _+_, _*_, _-_, max, _≤_, _<_}
+use Prim.Native.Nat.{ℕ, _+_, _≤_, _<_}
 use mathlib.Core.Bool.{Bool, true, false, cond}
 use mathlib.Core.Path.{_≡_, refl, sym, ap, ap₂, _∙_, subst}
 use mathlib.Core.Logic.{_≢_}
-use mathlib.Core.List.{List, [], _∷_, _++_}
+use mathlib.Core.List.{List}
 use mathlib.Core.Option.{Option, none, some, Option·none-ne-some}
 use native.Mathlib.Omega.{arith}
 use native.Mathlib.Decide.{decLt, ℕ-discrete}
 use Rattle.algebra.specs.Plans.{Tables, isPlain, cross, semi, quant, fold, each, pair, Plan, leaf, one, two}
 use Rattle.algebra.specs.Places.{size}
 use Rattle.algebra.specs.Rules.{ruleOf, numberAt, fresh}
-use Rattle.algebra.specs.Steps.{Step, attempt}
+use Rattle.algebra.specs.Steps.{attempt}
 use Rattle.algebra.specs.Demand3.{Still}
 use Rattle.algebra.proofs.Steps.{one-rule}
 use Rattle.reading.specs.TableSet.{tablesOf}
 use Rattle.reading.specs.Plan.{nodesOf}
-use Rattle.reading.specs.Tree.{operatorOf, operatorAt, planAt, planOf}
+use Rattle.reading.specs.Tree.{operatorAt, planAt, planOf}
 use Rattle.reading.specs.Check.{inputRefusal}
 use Rattle.reading.proofs.Places.{whole-size}
 use Rattle.reading.proofs.PlanBytes.{plan-passed}
 use Rattle.unnesting.specs.Shapes.{shape, ready, operatorRule}
-use Rattle.unnesting.specs.Attempts.{possible, Stored, Left, Tells, Smallest, Finds}
+use Rattle.unnesting.specs.Attempts.{possible, Left, Tells, Smallest, Finds}
 use Rattle.unnesting.specs.declared.step.Tried.{Tried}
 use Rattle.unnesting.specs.declared.step.Tried.the-variants.{No, Yes}
 use Rattle.unnesting.specs.declared.step.Found.{Found}

@@ -3,7 +3,7 @@ use Prim.Native.Nat.{ℕ, zero, suc, _+_, _*_, _≤_, _<_}
 use native.Mathlib.Omega.{arith}
 use native.Mathlib.Decide.{decLt, decLe}
 use mathlib.Core.Path.{_≡_, refl, sym, ap, _∙_}
-use mathlib.Core.Bool.{Bool, true, false, not, cond, _&&_, _||_, or-true, and-eq-true-iff, false≢true}
+use mathlib.Core.Bool.{Bool, true, false, not, cond, or-true, and-eq-true-iff, false≢true}
 use mathlib.Core.List.{List, [], _∷_, _++_}
 use lib.Dec.{eqb, leb}
 use lib.ListN.{length, take, drop, length-take, List·getD-eq-default}
@@ -12,14 +12,14 @@ use native.Mathlib.Decide.{ℕ-discrete}
 use borrow.Author.Tests.{lt-ltb, eq-eqb, ne-eqb}
 use Rattle.algebra.specs.Lists.{if_then_else_, all, member, minus}
 use Rattle.algebra.specs.Cells.{sum, least, greatest, count, over}
-use Rattle.algebra.specs.Plans.{Tables, formNames, Plan, leaf, one, two, columns, nested}
-use Rattle.algebra.specs.Places.{Operator, size}
+use Rattle.algebra.specs.Plans.{Tables, formNames, columns, nested}
+use Rattle.algebra.specs.Places.{size}
 use Rattle.algebra.specs.Names.{measured, binaryNames, innerFree, unaryFree, free}
 use Rattle.algebra.specs.Refusals.{byte}
 use Rattle.reading.specs.Bytes.{byteAt, u32At}
 use Rattle.reading.specs.TableSet.{wordOf}
 use Rattle.reading.specs.Plan.{nodePart, testOf, nodeOf, nodeAt, nodesOf}
-use Rattle.reading.specs.Tree.{formOf, aggregateOf, operatorOf, operatorAt, planAt}
+use Rattle.reading.specs.Tree.{formOf, aggregateOf, operatorOf, planAt}
 use Rattle.reading.specs.declared.plan.Test.the-variants.{Always, Columns, Number}
 use Rattle.reading.specs.declared.plan.Node.{Node}
 use Rattle.reading.proofs.FieldBytes.{Bytes}
@@ -27,7 +27,7 @@ use Rattle.reading.proofs.FlagLaws.{SameMembers}
 use Rattle.reading.proofs.Places.{all-joined}
 use Rattle.reading.proofs.Trees.{plan-past, plan-case, firstTree, secondTree}
 use Rattle.unnesting.specs.Frees.{unaryNames, operatorNames, nodeNames, namesOf, testNamed, rowNames}
-use Rattle.unnesting.proofs.FreeLaws.{member-minus, names-by-kind, unary-free}
+use Rattle.unnesting.proofs.FreeLaws.{names-by-kind, unary-free}
 
 -- ---- lists of bytes
 

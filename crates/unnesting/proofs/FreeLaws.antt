@@ -5,13 +5,12 @@ use native.Mathlib.Decide.{ℕ-discrete}
 use mathlib.Core.Path.{_≡_, refl, sym, ap, ap₂, _∙_, subst}
 use mathlib.Core.Bool.{Bool, true, false, not, _&&_, _||_, and-true, and-false, or-true, and-eq-true-iff, false≢true}
 use mathlib.Core.List.{List, [], _∷_, _++_}
-use lib.Dec.{eqb, ltb}
+use lib.Dec.{eqb}
 use lib.ListN.{length, getD, set, length-set, replicate, getD-replicate, List·getD-eq-default}
 use lib.Seq.{getD-set-same, getD-set-other}
 use borrow.Author.Tests.{eq-eqb, ne-eqb, ltb-true}
 use Rattle.algebra.specs.Lists.{if_then_else_, all, member, minus, isEmpty, upward}
-use Rattle.algebra.specs.Plans.{Tables, names, Unary, select, project, distinct, group, sort, Plan, leaf, one, two, columns}
-use Rattle.algebra.specs.Places.{Operator, unaryNode, binaryNode}
+use Rattle.algebra.specs.Plans.{Tables, names, Unary, select, project, distinct, group, sort, columns}
 use Rattle.algebra.specs.Names.{measured, unaryFree, free}
 use Rattle.algebra.specs.Refusals.{byte}
 use Rattle.reading.specs.Plan.{kindEntry, nodeAt, nodesOf}

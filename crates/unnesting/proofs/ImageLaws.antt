@@ -1,12 +1,12 @@
 -- Bytes written one by one, and the images of the nodes that the rules make. Assumes nothing.
-use Prim.Native.Nat.{ℕ, zero, suc, _+_, _≤_, _<_}
+use Prim.Native.Nat.{ℕ, suc, _+_, _≤_, _<_}
 use native.Mathlib.Omega.{arith}
 use native.Mathlib.Numerals.{add-one}
 use mathlib.Core.Path.{_≡_, refl, sym, ap, ap₂, _∙_}
 use mathlib.Core.Bool.{Bool, true, false, not, _||_}
-use mathlib.Core.List.{List, [], _∷_, _++_, append-assoc, append-nil}
+use mathlib.Core.List.{List, [], _∷_, _++_, append-assoc}
 use lib.Dec.{eqb, leb}
-use lib.ListN.{length, take, drop, getD, set, replicate, length-append}
+use lib.ListN.{length, take, drop, getD, set, length-append}
 use lib.Seq.{take-suc, drop-cons, set-at, length-take-le, take-all}
 use Rattle.algebra.specs.Plans.{test, select, project, group, cross, semi, pair}
 use Rattle.algebra.specs.Places.{unaryNode, binaryNode}

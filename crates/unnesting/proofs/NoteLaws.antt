@@ -1,14 +1,12 @@
 -- The stay note at a place, over bytes, and the ends of its call. Assumes nothing.
 use Prim.Native.Nat.{ℕ, zero, suc, _≤_, _<_}
 use mathlib.Core.Bool.{Bool, true, false, cond}
-use mathlib.Core.Path.{_≡_, refl, sym, ap, ap₂, _∙_, subst}
+use mathlib.Core.Path.{_≡_, refl, sym, _∙_, subst}
 use mathlib.Core.List.{List}
 use mathlib.Core.Option.{Option, none, some}
 use native.Mathlib.Omega.{arith}
-use lib.Dec.{ltb}
 use lib.ListN.{length, replicate}
 use borrow.Author.Tests.{lt-ltb, le-ltb}
-use Rattle.algebra.specs.Lists.{if_then_else_}
 use Rattle.algebra.specs.Plans.{Plan}
 use Rattle.algebra.specs.Refusals.{need}
 use Rattle.algebra.specs.Rules.{ruleOf}
@@ -16,14 +14,14 @@ use Rattle.algebra.specs.StayNotes.{Sequences, sequencesOf, comparing, noted}
 use Rattle.reading.specs.TableSet.{tablesOf}
 use Rattle.reading.specs.Plan.{nodesOf}
 use Rattle.reading.specs.Tree.{planAt, planOf}
-use Rattle.reading.specs.Check.{orNext, inputRefusal, checkOf}
+use Rattle.reading.specs.Check.{inputRefusal, checkOf}
 use Rattle.reading.specs.declared.input.Checked.the-variants.{Refused as InputRefused}
-use Rattle.reporting.specs.Report.{scratchNumber, scratchAfter}
+use Rattle.reporting.specs.Report.{scratchAfter}
 use Rattle.reporting.proofs.Reports.{answer-refused}
 use Rattle.unnesting.specs.Shapes.{ready}
 use Rattle.unnesting.specs.Sequences.{ComparedAs}
 use Rattle.unnesting.specs.Attempts.{possible, Left}
-use Rattle.unnesting.specs.StayNote.{stayNumber, noteDue, dueAfter, Allowed, StayNoted}
+use Rattle.unnesting.specs.StayNote.{stayNumber, noteDue, Allowed, StayNoted}
 use Rattle.unnesting.specs.declared.sequence.Compared.{Compared}
 use Rattle.unnesting.specs.declared.sequence.Compared.the-variants.{Same, Differ}
 use Rattle.unnesting.proofs.SequenceLaws.{ready-comparing}

@@ -1,6 +1,6 @@
 -- The trees at the places of a whole plan: where their children stand, and that the bytes of their nodes are a slice of the plan's. Assumes
 -- nothing.
-use Prim.Native.Nat.{ℕ, zero, suc, _+_, _*_, _-_, _≤_, _<_, min}
+use Prim.Native.Nat.{ℕ, zero, suc, _+_, _*_, _-_, _≤_, _<_}
 use mathlib.Core.Bool.{true}
 use mathlib.Core.Path.{_≡_, refl, sym, ap, ap₂, _∙_, subst}
 use mathlib.Core.List.{List, [], _∷_, _++_, map}
@@ -9,11 +9,11 @@ use native.Mathlib.Decide.{decLt, ℕ-discrete}
 use lib.ListN.{length, take, drop, length-drop}
 use lib.Seq.{take-add, drop-drop, length-take-le}
 use Rattle.algebra.specs.Lists.{flatMap, upward}
-use Rattle.algebra.specs.Plans.{Unary, Binary, Plan, leaf, one, two}
-use Rattle.algebra.specs.Places.{Operator, unaryNode, binaryNode, root, size, flatten, subtrees}
+use Rattle.algebra.specs.Plans.{Unary, Binary, one, two}
+use Rattle.algebra.specs.Places.{Operator, unaryNode, binaryNode, root, size, flatten}
 use Rattle.algebra.proofs.Places.{flatten-subtrees, size-positive}
 use Rattle.reading.specs.Plan.{nodesOf}
-use Rattle.reading.specs.Tree.{operatorAt, grown, planAt, planOf, wholeTree}
+use Rattle.reading.specs.Tree.{operatorAt, grown, planAt, wholeTree}
 use Rattle.reading.specs.Encoding.{nodeBytes}
 use Rattle.reading.proofs.Trees.{plan-grown, plan-case, firstTree, secondTree, second-at}
 use Rattle.reading.proofs.Ends.{endAt}

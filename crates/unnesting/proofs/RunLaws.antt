@@ -1,18 +1,15 @@
 -- The run over bytes: the steps found so far lead from the plan given to the one that is held. Assumes nothing.
-use Prim.Native.Nat.{ℕ, zero, suc, _+_, _*_, _-_, max, _≤_, _<_}
+use Prim.Native.Nat.{ℕ, _+_, _*_, _-_, max, _≤_, _<_}
 use mathlib.Core.Bool.{Bool, true, false}
-use mathlib.Core.Path.{_≡_, refl, sym, ap, ap₂, _∙_, subst}
+use mathlib.Core.Path.{_≡_, refl, sym, ap, _∙_, subst}
 use mathlib.Core.List.{List, [], _∷_, _++_}
-use mathlib.Core.Option.{Option, none, some}
 use native.Mathlib.Omega.{arith}
 use lib.ListN.{length, take, drop, length-append}
 use lib.Seq.{length-take-le, take-at}
-use Rattle.algebra.specs.Lists.{flatMap}
-use Rattle.algebra.specs.Plans.{Tables, Plan}
-use Rattle.algebra.specs.Places.{size}
+use Rattle.algebra.specs.Plans.{Plan}
 use Rattle.algebra.specs.Refusals.{need, passes}
 use Rattle.algebra.specs.Steps.{weight, Step, attempt, after, run}
-use Rattle.algebra.specs.Demand3.{Still, Run}
+use Rattle.algebra.specs.Demand3.{Still}
 use Rattle.algebra.proofs.Steps.{run-3, run-length, weight-size}
 use Rattle.reading.specs.TableSet.{tablesOf}
 use Rattle.reading.specs.Tree.{planOf}
@@ -20,9 +17,9 @@ use Rattle.reading.specs.Encoding.{planBytes}
 use Rattle.reading.specs.Check.{inputRefusal}
 use Rattle.reading.proofs.Places.{flatMap-joined}
 use Rattle.reading.proofs.PlanBytes.{plan-passed, accepted-bytes}
-use Rattle.unnesting.specs.Unnest.{unnestSteps, unnestNeed, passedThrough, stepBytes, writtenSteps, writtenPlan}
+use Rattle.unnesting.specs.Unnest.{unnestSteps, unnestNeed, stepBytes, writtenSteps, writtenPlan}
 use Rattle.unnesting.specs.Images.{bytesWritten}
-use Rattle.unnesting.specs.Attempts.{Stored, Left, Smallest, Ends, Runs}
+use Rattle.unnesting.specs.Attempts.{Stored, Smallest, Ends, Runs}
 use Rattle.unnesting.proofs.Demand3.{input-parts}
 use Rattle.unnesting.proofs.UnnestLaws.{passed-need}
 use Rattle.unnesting.proofs.Runs.{run-unique, Leads, leads-start, leads-step, leads-end, plan-small, steps-long, steps-few, plan-short}

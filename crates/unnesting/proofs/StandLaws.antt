@@ -1,5 +1,5 @@
 -- A tree at a place of a plan: the nodes around it, what is seen there, and what a change there gives. Assumes nothing.
-use Prim.Native.Nat.{ℕ, zero, suc, _+_, _-_, _≤_, _<_}
+use Prim.Native.Nat.{ℕ, zero, suc, _+_, _-_, _<_}
 use mathlib.Core.Bool.{true, false, cond}
 use mathlib.Core.Path.{_≡_, refl, sym, ap, _∙_, subst}
 use mathlib.Core.List.{List, [], _∷_, _++_, map, map-map, append-assoc, append-nil}
@@ -7,10 +7,10 @@ use mathlib.Core.Option.{Option, none, some, Option·map}
 use native.Mathlib.Omega.{arith}
 use lib.Dec.{ltb}
 use lib.ListN.{length, length-append, getD}
-use borrow.Author.Tests.{ltb-true, ltb-false, le-ltb}
+use borrow.Author.Tests.{ltb-true, ltb-false}
 use Rattle.algebra.specs.Lists.{upward}
 use Rattle.algebra.specs.Plans.{unit, Plan, leaf, one, two}
-use Rattle.algebra.specs.Places.{Operator, unaryNode, binaryNode, size, flatten, here, modify, look}
+use Rattle.algebra.specs.Places.{Operator, unaryNode, binaryNode, size, flatten, modify, look}
 use Rattle.algebra.proofs.Places.{flatten-length, look-subtrees}
 use Rattle.algebra.proofs.Change.{look-root}
 use Rattle.reading.specs.Plan.{nodesOf}

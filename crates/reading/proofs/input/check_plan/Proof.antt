@@ -1,4 +1,4 @@
-use mathlib.Core.Path.{_≡_, refl, sym, ap, _∙_}
+use mathlib.Core.Path.{sym, _∙_}
 use Rattle.reading.proofs.Acceptance.{check-plan}
 use borrow.Author.Needs.{needs}
 use Rattle.reading.proofs.input.check_plan.Statement.{statement}

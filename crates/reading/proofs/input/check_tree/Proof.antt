@@ -1,10 +1,10 @@
-use mathlib.Core.Path.{_≡_, refl, sym, ap, _∙_}
-use mathlib.Core.Bool.{Bool, true, false}
-use mathlib.Core.List.{List, []}
+use mathlib.Core.Path.{_≡_, sym, ap, _∙_}
+use mathlib.Core.Bool.{true}
+use mathlib.Core.List.{[]}
 use borrow.Author.Tests.{not-true, not-false}
-use Rattle.algebra.specs.Refusals.{found, once, inView, narrow, low, need}
+use Rattle.algebra.specs.Refusals.{found, once, inView, narrow, low}
 use Rattle.reading.specs.Bytes.{allBelow}
-use Rattle.reading.specs.TableSet.{readSet, amountOf, tablesOf}
+use Rattle.reading.specs.TableSet.{amountOf, tablesOf}
 use Rattle.reading.specs.Plan.{nodesOf}
 use Rattle.reading.specs.Tree.{operatorAt, planAt, planOf, wholeTree}
 use Rattle.reading.specs.Nodes.{idsOf}

@@ -1,8 +1,7 @@
 use native.Mathlib.Omega.{arith}
-use mathlib.Core.Path.{_≡_, refl, sym, ap, _∙_}
-use mathlib.Core.Bool.{Bool, true, false}
-use mathlib.Core.List.{List, _++_}
-use Prim.Native.Nat.{_-_, _+_}
+use mathlib.Core.Path.{refl, sym, ap, _∙_}
+use mathlib.Core.List.{_++_}
+use Prim.Native.Nat.{_-_}
 use borrow.Author.Tests.{not-true, not-false}
 use Rattle.algebra.specs.Plans.{columns}
 use Rattle.algebra.specs.Refusals.{inView}
@@ -10,7 +9,7 @@ use Rattle.reading.specs.Plan.{nodesOf}
 use Rattle.reading.specs.Tree.{operatorOf}
 use Rattle.reading.specs.TableSet.{tablesOf}
 use Rattle.reading.specs.Nodes.{innerColumns}
-use Rattle.reading.proofs.Trees.{plan-past, second-at, firstTree, secondTree}
+use Rattle.reading.proofs.Trees.{plan-past, second-at, firstTree}
 use Rattle.reading.proofs.ViewLaws.{view-root-fails, view-leaf, view-first-fails, view-one, view-two}
 use Prim.Native.Nat.{ℕ, _<_}
 use borrow.Fn.Kinds.{In}

@@ -1,8 +1,8 @@
-use Prim.Native.Nat.{_≤_, _<_, _-_, _+_, min}
+use Prim.Native.Nat.{_≤_, _-_, min}
 use native.Mathlib.Omega.{arith}
 use borrow.Author.Needs.{needs}
-use mathlib.Core.Path.{_≡_, sym, _∙_}
-use lib.ListN.{length, length-set, take, getD}
+use mathlib.Core.Path.{_≡_}
+use lib.ListN.{length, take}
 use Rattle.reading.specs.Flags.{Adds}
 use Rattle.reading.proofs.FlagLaws.{adds-none, list-part, list-adds}
 use Rattle.reading.proofs.view.add_list.Statement.{statement}

@@ -1,5 +1,4 @@
-use mathlib.Core.Path.{_≡_, sym, ap, _∙_}
-use native.Mathlib.Omega.{arith}
+use mathlib.Core.Path.{sym, _∙_}
 use Rattle.reading.proofs.FlagLaws.{adds-none, adds-then}
 use Rattle.reading.proofs.ViewLaws.{own-more}
 use borrow.Author.Needs.{needs}

@@ -1,8 +1,4 @@
-use Prim.Native.Nat.{ℕ, _<_}
 use native.Mathlib.Omega.{arith}
-use mathlib.Core.Path.{_≡_, refl, sym, ap, _∙_}
-use mathlib.Core.Bool.{Bool, true, false}
-use lib.ListN.{getD}
 use Rattle.reading.proofs.FlagLaws.{flag-decides}
 use borrow.Author.Needs.{needs}
 use Rattle.reading.proofs.view.flagged.Statement.{statement}

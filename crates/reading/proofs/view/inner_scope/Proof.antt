@@ -1,4 +1,4 @@
-use mathlib.Core.Path.{_≡_, sym, ap, _∙_}
+use mathlib.Core.Path.{_∙_}
 use Rattle.reading.specs.Tree.{operatorOf}
 use Rattle.reading.specs.Nodes.{operatorNested}
 use Rattle.reading.proofs.FlagLaws.{adds-none}

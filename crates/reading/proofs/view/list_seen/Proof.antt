@@ -1,8 +1,8 @@
-use Prim.Native.Nat.{_≤_, _<_, _-_, _+_, min}
+use Prim.Native.Nat.{_≤_, _-_}
 use native.Mathlib.Omega.{arith}
 use borrow.Author.Needs.{needs}
-use mathlib.Core.Path.{_≡_, sym, _∙_}
-use lib.ListN.{length, length-set, take, getD}
+use mathlib.Core.Path.{_≡_, sym}
+use lib.ListN.{length}
 use Rattle.reading.proofs.FlagLaws.{list-part, ListLeft, left-first, left-absent, left-more, left-end}
 use Rattle.reading.proofs.view.list_seen.Statement.{statement}
 use Rattle.reading.proofs.view.list_seen.Tie as tie

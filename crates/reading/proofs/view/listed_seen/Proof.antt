@@ -1,4 +1,4 @@
-use mathlib.Core.Path.{_≡_, sym, _∙_}
+use mathlib.Core.Path.{sym, _∙_}
 use Rattle.reading.proofs.FlagLaws.{sees-once-none}
 use Rattle.reading.proofs.ViewLaws.{list-has}
 use borrow.Author.Needs.{needs}

@@ -1,4 +1,4 @@
-use mathlib.Core.Path.{_≡_, sym, _∙_}
+use mathlib.Core.Path.{sym, _∙_}
 use borrow.Author.Tests.{not-true, not-false}
 use Rattle.reading.proofs.ViewLaws.{list-fails, first-fails, second-fails, test-decides}
 use borrow.Author.Needs.{needs}

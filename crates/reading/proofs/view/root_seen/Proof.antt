@@ -1,5 +1,5 @@
 use native.Mathlib.Omega.{arith}
-use mathlib.Core.Path.{_≡_, sym, ap, _∙_}
+use mathlib.Core.Path.{_∙_}
 use mathlib.Core.List.{[]}
 use Rattle.algebra.specs.Plans.{columns}
 use Rattle.reading.specs.TableSet.{tablesOf}

@@ -1,4 +1,3 @@
-use mathlib.Core.Path.{_≡_, sym, _∙_}
 use borrow.Author.Tests.{not-true, not-false}
 use Rattle.reading.proofs.FlagLaws.{sees-none, sees-one, sees-absent, sees-more}
 use borrow.Author.Needs.{needs}

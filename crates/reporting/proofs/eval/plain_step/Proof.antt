@@ -1,5 +1,4 @@
 use mathlib.Core.Path.{sym, ap, _∙_, subst}
-use Prim.Native.Nat.{_-_}
 use lib.ListN.{length, take, drop}
 use Rattle.algebra.specs.Plans.{Row, Env, bind}
 use Rattle.reading.specs.Tree.{operatorOf}

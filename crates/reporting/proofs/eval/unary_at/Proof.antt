@@ -1,4 +1,3 @@
-use Prim.Native.Nat.{_-_}
 use native.Mathlib.Omega.{arith}
 use Rattle.reporting.proofs.Soundness.{sound-width}
 use Rattle.reporting.proofs.Arms.{ids-part}

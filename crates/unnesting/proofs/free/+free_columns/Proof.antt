@@ -1,6 +1,5 @@
 use native.Mathlib.Omega.{arith}
-use mathlib.Core.Path.{_≡_, sym, ap, _∙_}
-use Prim.Native.Nat.{_-_, _+_}
+use Prim.Native.Nat.{_-_}
 use Rattle.algebra.specs.Names.{free}
 use Rattle.reading.specs.Plan.{nodesOf}
 use Rattle.reading.specs.TableSet.{tablesOf}

@@ -1,11 +1,9 @@
 use Prim.Native.Nat.{ℕ, _-_, _≤_, _<_}
 use native.Mathlib.Omega.{arith}
-use native.Mathlib.Decide.{ℕ-discrete}
-use mathlib.Core.Path.{_≡_, sym, ap, _∙_}
+use mathlib.Core.Path.{_≡_, sym, _∙_}
 use mathlib.Core.Bool.{false, _&&_}
 use lib.Dec.{eqb}
 use lib.ListN.{getD}
-use borrow.Author.Tests.{not-true, not-false}
 use Rattle.unnesting.proofs.FreeLaws.{flags-meet, flags-apart, apart-next}
 use Rattle.unnesting.proofs.free.apart.Statement.{statement}
 use Rattle.unnesting.proofs.free.apart.Tie as tie

@@ -1,4 +1,3 @@
-use native.Mathlib.Omega.{arith}
 use Rattle.unnesting.proofs.ImageLaws.{image-long}
 use borrow.Author.Needs.{needs}
 use Rattle.unnesting.proofs.image.write_node.Statement.{statement}

@@ -1,5 +1,4 @@
-use mathlib.Core.Path.{_≡_, ap, _∙_}
-use mathlib.Core.Bool.{Bool}
+use mathlib.Core.Path.{_∙_}
 use borrow.Author.Needs.{needs}
 use Rattle.unnesting.proofs.join.semi_node.Statement.{statement}
 use Rattle.unnesting.proofs.join.semi_node.Tie as tie

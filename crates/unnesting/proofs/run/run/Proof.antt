@@ -1,16 +1,14 @@
 use native.Mathlib.Omega.{arith}
-use mathlib.Core.Path.{_≡_, refl, sym, ap, _∙_}
-use mathlib.Core.List.{List}
-use Prim.Native.Nat.{ℕ, _-_, _+_, _*_, _≤_, _<_}
+use mathlib.Core.Path.{_≡_, ap, _∙_}
+use Prim.Native.Nat.{_-_, _+_, _≤_}
 use lib.ListN.{length, take, length-take}
 use borrow.Author.Needs.{needs}
-use Rattle.reading.specs.TableSet.{tablesOf}
 use Rattle.reading.specs.Tree.{planOf}
 use Rattle.reading.proofs.PlanBytes.{plan-passed}
 use Rattle.unnesting.specs.Attempts.{Smallest}
 use Rattle.unnesting.proofs.Demand3.{input-parts}
 use Rattle.unnesting.proofs.AttemptLaws.{finds-nothing, finds-step}
-use Rattle.unnesting.proofs.RunLaws.{front-written, front-part, Running, running-start, Held, held, running-few, running-short, running-end, running-room, running-step}
+use Rattle.unnesting.proofs.RunLaws.{front-written, front-part, Running, running-start, held, running-short, running-end, running-room, running-step}
 use Rattle.unnesting.proofs.run.run.Statement.{statement}
 use Rattle.unnesting.proofs.run.run.Tie as tie
 use Rattle.unnesting.proofs.run.run.Reads as reads

@@ -2,7 +2,6 @@ use Prim.Native.Nat.{ℕ, _-_, _≤_}
 use native.Mathlib.Omega.{arith}
 use mathlib.Core.Path.{_≡_, refl, subst, _∙_}
 use lib.ListN.{length, take, length-set}
-use borrow.Author.Needs.{needs}
 use Rattle.unnesting.proofs.SequenceLaws.{copied-next}
 use Rattle.unnesting.proofs.sequence.front_of.Statement.{statement}
 use Rattle.unnesting.proofs.sequence.front_of.Tie as tie

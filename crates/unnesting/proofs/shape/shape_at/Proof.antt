@@ -1,7 +1,6 @@
 use native.Mathlib.Omega.{arith}
-use Prim.Native.Nat.{_<_}
-use mathlib.Core.Path.{_≡_, sym, _∙_}
-use mathlib.Core.Logic.{_⊎_, inl, inr}
+use mathlib.Core.Path.{sym, _∙_}
+use mathlib.Core.Logic.{inl, inr}
 use Rattle.unnesting.proofs.RuleLaws.{low-none, high-none}
 use borrow.Author.Needs.{needs}
 use Rattle.unnesting.proofs.shape.shape_at.Statement.{statement}

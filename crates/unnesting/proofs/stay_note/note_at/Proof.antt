@@ -2,7 +2,7 @@ use native.Mathlib.Omega.{arith}
 use mathlib.Core.Bool.{true}
 use mathlib.Core.Path.{_≡_, refl, sym, ap, _∙_}
 use borrow.Author.Tests.{not-true, not-false}
-use Prim.Native.Nat.{ℕ, _<_}
+use Prim.Native.Nat.{_<_}
 use Rattle.algebra.specs.Rules.{ruleOf}
 use Rattle.algebra.specs.StayNotes.{comparing}
 use Rattle.reading.specs.TableSet.{tablesOf}

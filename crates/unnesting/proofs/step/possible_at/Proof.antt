@@ -1,18 +1,16 @@
 use native.Mathlib.Omega.{arith}
-use mathlib.Core.Path.{_≡_, sym, ap, _∙_, subst}
-use mathlib.Core.List.{List}
+use mathlib.Core.Path.{_≡_, sym, _∙_, subst}
 use Prim.Native.Nat.{ℕ, _-_}
 use lib.ListN.{take}
 use Rattle.reading.specs.Check.{checkOf}
 use borrow.Author.Tests.{not-true, not-false}
 use Rattle.algebra.specs.Rules.{fresh}
-use Rattle.reading.specs.Plan.{nodesOf}
 use Rattle.reading.specs.TableSet.{tablesOf}
 use Rattle.reading.specs.Tree.{planOf}
 use Rattle.reading.proofs.PlanBytes.{plan-passed}
 use Rattle.unnesting.specs.Shapes.{Makes}
 use Rattle.unnesting.proofs.Demand3.{input-parts}
-use Rattle.unnesting.proofs.CandidateLaws.{fit-none, fit-made, possible-none, tried-no, tried-yes, written-fits}
+use Rattle.unnesting.proofs.CandidateLaws.{fit-none, fit-made, possible-none, tried-no, tried-yes}
 use borrow.Author.Needs.{needs}
 use Rattle.unnesting.proofs.step.possible_at.Statement.{statement}
 use Rattle.unnesting.proofs.step.possible_at.Tie as tie

@@ -1,11 +1,10 @@
 use native.Mathlib.Omega.{arith}
-use mathlib.Core.Path.{_≡_, sym, ap, _∙_}
+use mathlib.Core.Path.{_≡_, ap, _∙_}
 use Prim.Native.Nat.{ℕ, _-_, _≤_, _<_}
 use lib.ListN.{length}
 use borrow.Author.Needs.{needs}
 use Rattle.algebra.specs.Demand3.{Still}
 use Rattle.reading.specs.TableSet.{tablesOf}
-use Rattle.reading.specs.Plan.{nodesOf}
 use Rattle.reading.specs.Tree.{operatorOf, planOf}
 use Rattle.reading.specs.declared.plan.Node.{Node}
 use Rattle.unnesting.specs.Shapes.{operatorRule}

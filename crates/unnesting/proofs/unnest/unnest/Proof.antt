@@ -1,4 +1,4 @@
-use mathlib.Core.Path.{_≡_, refl, sym, _∙_}
+use mathlib.Core.Path.{refl, sym, _∙_}
 use Rattle.reporting.proofs.Reports.{accepted-input}
 use Rattle.unnesting.proofs.UnnestLaws.{turned-back}
 use borrow.Author.Needs.{needs}

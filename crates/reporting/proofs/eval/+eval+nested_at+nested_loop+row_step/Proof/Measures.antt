@@ -1,5 +1,5 @@
-use Prim.Native.Nat.{ℕ, suc, _+_, _*_, _-_, _≤_, _<_}
-use Rattle.reading.specs.Tree.{operatorOf, planAt}
+use Prim.Native.Nat.{ℕ, _+_, _*_, _<_}
+use Rattle.reading.specs.Tree.{planAt}
 use Rattle.algebra.specs.Places.{size}
 -- The measures of the cycle, and what each member is given and asks.
 use Prim.Native.Nat.{ℕ, _<_}

@@ -1,10 +1,10 @@
 use mathlib.Core.Path.{refl}
-use Prim.Native.Nat.{ℕ, _-_}
+use Prim.Native.Nat.{ℕ}
 use native.Mathlib.Omega.{arith}
 use Rattle.reporting.proofs.Soundness.{sound-width}
 use Rattle.reporting.proofs.Arms.{ids-part}
 -- What `nested_at` leaves to show.
-use Prim.Native.Nat.{ℕ, _-_}
+use Prim.Native.Nat.{ℕ}
 use Rattle.reporting.proofs.eval.nested_at.Reads as nested-at
 use Rattle.reporting.proofs.eval.+eval+nested_at+nested_loop+row_step.Lts-nested_at as nested-at-lts
 use Rattle.reading.proofs.kinds.children_of.Reads as children-of-reads
