@@ -1,17 +1,16 @@
 -- The plan after a rule at a place, over bytes: it is read from the bytes written, and whether they are accepted tells whether the rule fits.
 -- Assumes nothing.
-use Prim.Native.Nat.{ℕ, zero, suc, _+_, _*_, _≤_, _<_}
+use Prim.Native.Nat.{ℕ, suc, _+_, _*_, _≤_, _<_}
 use mathlib.Core.Bool.{Bool, true, false, cond}
 use mathlib.Core.Path.{_≡_, refl, sym, ap, ap₂, _∙_}
 use mathlib.Core.Logic.{_≢_}
 use mathlib.Core.List.{List, [], _∷_, _++_, append-assoc}
 use mathlib.Core.Option.{Option, none, some, Option·map, Option·none-ne-some}
 use native.Mathlib.Omega.{arith}
-use lib.Dec.{eqb}
 use lib.ListN.{length, length-append, take, drop, replicate}
 use lib.Seq.{take-at, drop-at, length-take-le}
 use borrow.Author.Tests.{eq-eqb, le-leb}
-use Rattle.algebra.specs.Lists.{if_then_else_, flatMap}
+use Rattle.algebra.specs.Lists.{flatMap}
 use Rattle.algebra.specs.Plans.{Tables, always, columnsOf, numberOf, Test, test, unit, scan, select, project, distinct, group, sort, cross, semi, quant, fold, each, pair, Plan}
 use Rattle.algebra.specs.Places.{Operator, leafNode, unaryNode, binaryNode, size, flatten, modify, look}
 use Rattle.algebra.specs.Refusals.{refusal, need, passes}
@@ -30,12 +29,11 @@ use Rattle.reading.specs.declared.input.Checked.the-variants.{Accepted, Refused
 use Rattle.reading.proofs.Places.{whole-size, flatMap-joined}
 use Rattle.reading.proofs.PlanBytes.{PlanKnown, plan-passed, bytes-plan, passes-accepted}
 use Rattle.reporting.proofs.Reports.{answer-refused, accepted-input}
-use Rattle.unnesting.specs.Shapes.{shape, ready, nodeSlice, moreBytes, changedBytes, changedCount, Inside, Makes, Shaped}
+use Rattle.unnesting.specs.Shapes.{shape, ready, nodeSlice, moreBytes, changedBytes, changedCount, Makes, Shaped}
 use Rattle.unnesting.specs.Images.{image}
 use Rattle.unnesting.specs.Attempts.{possible, Left}
 use Rattle.unnesting.specs.declared.change.Shape.{Shape}
 use Rattle.unnesting.specs.declared.change.Change.{Change}
-use Rattle.unnesting.proofs.ImageLaws.{image-long}
 use Rattle.unnesting.proofs.PlaceLaws.{slice-join, slice-long, slice-at, inside-at}
 use Rattle.unnesting.proofs.Demand3.{input-parts, input-from}
 use Rattle.unnesting.proofs.StandLaws.{Stands, stands-at}
@@ -159,35 +157,6 @@ module _ (T : Tables) (c : Option ℕ) (plan : List ℕ) (i : ℕ) (change : Cha
       ap (λ (k : ℕ). 24 * k) (sym (flatten-length planAfter)) ∙ (sym (nodes-long (flatten planAfter)) ∙ (ap length after-nodes ∙ long)) in
       let k : changedCount plan i change ≡ size planAfter = omega arith in
       ap₂ (λ (x : ℕ) (s : List ℕ). planMark ++ (x ∷ s)) k (sym after-nodes)
-
--- the bytes written are 24 for each node that is counted, where the lists of the change's nodes are 7 long
-more-long : (m : ℕ) (second third : List ℕ) → length second ≡ 24 → length third ≡ 24 → m ≤ 2
-    → length (if eqb m 0 then [] else if eqb m 1 then second else second ++ third) ≡ 24 * m
-more-long zero second third h g l = refl
-more-long (suc zero) second third h g l = h
-more-long (suc (suc zero)) second third h g l = length-append second third ∙ omega arith
-more-long (suc (suc (suc m))) second third h g l = absurd (omega arith)
-
-pub changed-long : (plan : List ℕ) (i : ℕ) (change : Change) → length plan ≡ 6 + 24 * nodesOf plan → Inside plan i change
-    → length (change .first .list) ≡ 7 → length (change .second .list) ≡ 7 → length (change .third .list) ≡ 7
-    → length (changedBytes plan i change) ≡ 24 * changedCount plan i change
-changed-long plan i change long inside h g k =
-    let a = nodeSlice plan 0 i in
-    let b = nodeSlice plan (i + 1) (change .keep) in
-    let c = nodeSlice plan (change .from) (nodesOf plan) in
-    let m = moreBytes change in
-    omega (
-      arith,
-      length-append a (image (change .first) ++ (b ++ (m ++ c))),
-      length-append (image (change .first)) (b ++ (m ++ c)),
-      length-append b (m ++ c),
-      length-append m c,
-      slice-long plan 0 i long (omega arith) (omega (arith, inside .place)),
-      image-long (change .first) h,
-      slice-long plan (i + 1) (change .keep) long (inside .kept) (inside .end),
-      more-long (change .more) (image (change .second)) (image (change .third)) (image-long (change .second) g) (image-long (change .third) k) (inside .few),
-      slice-long plan (change .from) (nodesOf plan) long (inside .rest) (omega arith),
-    )
 
 -- ---- the rule at a place
 

@@ -96,9 +96,6 @@ module _ (set plan : List ℕ) (input : inputRefusal set plan ≡ 0) where
       omega (arith, run-length T r, length-append us vs, weight-size (planOf plan), plan-small set plan input)
 
   module _ (room : ℕ) (current steps slice : List ℕ) (long needed count : ℕ) (r : Running set plan room current steps long needed count) where
-    pub running-few : count ≤ 192
-    running-few = omega (arith, leads-few (r .us) (r .q) (r .m) (r .leads), r .counted)
-
     -- scratch is short of the plan that is held, so it is of one that the run passes through
     pub running-short : room < needed → room < unnestNeed set plan
     unfolding unnestNeed

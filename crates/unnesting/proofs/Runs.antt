@@ -18,7 +18,7 @@ use Rattle.reading.specs.Tree.{planOf}
 use Rattle.reading.specs.Check.{inputRefusal}
 use Rattle.reading.proofs.Places.{whole-size}
 use Rattle.reading.proofs.PlanBytes.{plan-passed}
-use Rattle.unnesting.specs.Unnest.{unnestSteps, unnestPlan, passedThrough, largest, unnestNeed, stepBytes, writtenSteps, writtenPlan}
+use Rattle.unnesting.specs.Unnest.{unnestSteps, unnestPlan, passedThrough, largest, unnestNeed, stepBytes, writtenPlan}
 use Rattle.unnesting.proofs.Demand3.{input-parts, demand-3}
 
 -- ---- only one run
@@ -124,9 +124,6 @@ module _ (set plan : List ℕ) (passed : inputRefusal set plan ≡ 0) where
   -- a node weighs at most 3
   pub steps-few : length (unnestSteps set plan) ≤ 192
   steps-few = omega (arith, run-length (tablesOf set) (run-3 (tablesOf set) (planOf plan)), weight-size (planOf plan), plan-small)
-
-  pub steps-short : length (writtenSteps set plan) ≤ 384
-  steps-short = omega (arith, steps-long (unnestSteps set plan), steps-few)
 
   pub plan-short : length (writtenPlan set plan) ≤ 1542
   plan-short =
