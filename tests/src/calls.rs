@@ -175,7 +175,7 @@ pub fn listing(set: &[u8], plan: &[u8], scratch_cells: usize) -> String {
 }
 
 /// A cell as the listing prints it.
-fn cell_text(code: i32) -> String {
+pub fn cell_text(code: i32) -> String {
     match code {
         BLANK => "-".to_string(),
         OFF_SCALE => "+".to_string(),
