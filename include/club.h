@@ -8,7 +8,8 @@
  * so many elements can be read, and those of out, out_plan, out_steps and scratch written; and a buffer that is written overlaps no
  * other. No call allocates, keeps a pointer, or fails in any other way than by a refusal number.
  *
- * Each call gives one 64-bit word. Its low byte is the refusal, 0 for none; a refused call gives its number alone.
+ * Each call gives one 64-bit word. Its low byte is the refusal, 0 for none; a refused call gives its number alone. Which answer is the
+ * right one, for any input, is in docs/DEFINITION.md.
  *
  *    1  table cut short                      9  a field that the kind does not list, or out of its range
  *    2  table's mark or version             10  children missing or nodes left over

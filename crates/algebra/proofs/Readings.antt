@@ -1,4 +1,4 @@
--- In an accepted plan every name reads as the paper says: a left key is the left row's, a right key, an aggregate's column and a list's
+-- In an accepted plan every name reads as the definition says: a left key is the left row's, a right key, an aggregate's column and a list's
 -- are their own child's, and Group compares its value with each row's right key. The definitions of `Plans` read all of them in one
 -- environment; here that is shown to give the same rows as `readEval`, which reads each of its own row. Assumes nothing.
 use Prim.Native.Nat.{ℕ}
@@ -281,6 +281,6 @@ module _ (T : Tables) where
       (reads (innerScope (nested b) (columns T e) scope) f w (unique-right (introduced T e) (introduced T f) ids) inner (around (nested b) env (bind (columns T e) l env)))))
       (reads scope e v (unique-left (introduced T e) (introduced T f) ids) (λ x i. not-left x (introduced T e) (introduced T f) (below x i)) env)
 
-  -- the rows of an accepted plan are those that the paper's reading of each name gives
+  -- the rows of an accepted plan are those that this reading of each name gives
   pub accepted-reads : (p : Plan) → refusal T p ≡ 0 → (env : Env) → eval T p env ≡ readEval T p env
   accepted-reads p h = reads [] p (refusal-in-view T p h) (once-unique (introduced T p) (refusal-once T p h)) (λ x i. absurd (false≢true i))

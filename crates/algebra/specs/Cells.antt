@@ -1,4 +1,4 @@
--- Cells, comparisons and aggregates (paper 01, "The set of tables" and "The plan"). Definitions only.
+-- Cells, comparisons and aggregates (docs/DEFINITION.md, "Cells", "Tests and comparisons" and "Aggregates"). Definitions only.
 -- A cell is held as its signed 32-bit code plus 2^31, so that the order of cells is the order of codes.
 use Prim.Native.Nat.{ℕ, _+_, _*_, _-_, min, max}
 use mathlib.Core.Bool.{Bool, not, cond, _&&_}

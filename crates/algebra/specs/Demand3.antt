@@ -1,4 +1,4 @@
--- What demand 3 claims of a list of steps, and what a run is (paper 01, "The eight unnestings"). Definitions only.
+-- What demand 3 claims of a list of steps, and what a run is (docs/DEFINITION.md, "The three demands"). Definitions only.
 use Prim.Native.Nat.{ℕ, _+_, _≤_, _<_}
 use mathlib.Core.Path.{_≡_}
 use mathlib.Core.List.{List, [], _∷_}

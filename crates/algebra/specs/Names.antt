@@ -1,5 +1,5 @@
--- The columns that a plan names from outside itself, and the ids that it introduces (paper 01, "The plan" and "The eight unnestings").
--- Definitions only.
+-- The columns that a plan names from outside itself, and the ids that it introduces. Definitions only.
+-- See docs/DEFINITION.md, "Columns and ids" and "Words of the rules".
 use Prim.Native.Nat.{ℕ}
 use mathlib.Core.Bool.{Bool, true, false}
 use mathlib.Core.List.{List, [], _∷_, _++_}

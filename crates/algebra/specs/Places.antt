@@ -1,4 +1,4 @@
--- Places: a node's number in pre-order, from 0 (paper 01, "The plan"). Definitions only.
+-- Places: a node's number in pre-order, from 0 (docs/DEFINITION.md, "The tree"). Definitions only.
 use Prim.Native.Nat.{ℕ, zero, suc, _+_, _-_}
 use mathlib.Core.Bool.{cond}
 use mathlib.Core.List.{List, [], _∷_, _++_}

@@ -1,4 +1,5 @@
--- Plans: trees of steps over tables, the columns and the rows that they give (paper 01, "The plan"). Definitions only.
+-- Plans: trees of steps over tables, the columns and the rows that they give. Definitions only.
+-- See docs/DEFINITION.md, "The kinds", "The tree", "Columns and ids", "Tests and comparisons", "Aggregates" and "Rows".
 -- The rows that a plan is nested in are an environment: the value of each column id. Every operator reads columns through it.
 use Prim.Native.Nat.{ℕ}
 use mathlib.Core.Bool.{Bool, true, false, not, cond, _&&_}

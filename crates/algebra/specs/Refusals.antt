@@ -1,4 +1,5 @@
--- The row bound, the need, and the refusals 8 to 14 of a plan as a tree (paper 01, "The plan" and "Turned-back input"). Definitions only.
+-- The row bound, the need, and the refusals 8 to 14 of a plan as a tree. Definitions only.
+-- See docs/DEFINITION.md, "The kinds", "Columns and ids" and "Bound and need".
 -- The reading call meets 11 to 14 by `refusal`, and the unnestings ask the plan after them to pass by the same definition.
 use Prim.Native.Nat.{ℕ, _+_, _*_, max}
 use mathlib.Core.Bool.{Bool, true, false, not, _&&_}

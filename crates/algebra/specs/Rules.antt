@@ -1,4 +1,4 @@
--- The eight unnestings (paper 01, "The eight unnestings"). Definitions only.
+-- The eight unnestings (docs/DEFINITION.md, "The unnestings"). Definitions only.
 -- e and f are a node's first and second child. U1 and U2 are one definition with a mark, and so are U3 and U4.
 use Prim.Native.Nat.{ℕ, zero, suc}
 use mathlib.Core.Bool.{Bool, true, false, not, cond, _&&_}

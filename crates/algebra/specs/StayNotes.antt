@@ -1,4 +1,4 @@
--- Stay notes: where U3, U4 or U6 fails only because the sequences differ (paper 01, "The eight unnestings"). Definitions only.
+-- Stay notes: where U3, U4 or U6 fails only because the sequences differ (docs/DEFINITION.md, "Stay notes"). Definitions only.
 use Prim.Native.Nat.{ℕ}
 use mathlib.Core.Bool.{Bool, not, cond, _||_}
 use mathlib.Core.List.{List, [], _∷_}

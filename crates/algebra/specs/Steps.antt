@@ -1,4 +1,4 @@
--- Weight, trying a step, lists of steps, and the run (paper 01, "The eight unnestings"). Definitions only.
+-- Weight, trying a step, lists of steps, and the run (docs/DEFINITION.md, "When a rule fits" and "Steps"). Definitions only.
 use Prim.Native.Nat.{ℕ, zero, suc, _+_}
 use mathlib.Core.Bool.{cond}
 use mathlib.Core.List.{List, [], _∷_}

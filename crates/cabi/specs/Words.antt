@@ -1,5 +1,5 @@
 -- What a C program gets from each call: one 64-bit word, beside the buffers that it lends. A refused call gives its number alone.
--- Definitions only.
+-- Definitions only (docs/DEFINITION.md, "From C").
 use Prim.Native.Nat.{ℕ, _+_, _*_}
 use mathlib.Core.Path.{_≡_}
 use mathlib.Core.List.{List}

@@ -1,4 +1,4 @@
--- How the listing prints a cell (paper 01, "Tried examples"). Definitions only.
+-- How the listing prints a cell (docs/DEFINITION.md, "The listing"). Definitions only.
 use Prim.Native.Nat.{suc}
 use lib.Dec.{eqb}
 use lib.IntN.{ℤ, pos, negsuc}

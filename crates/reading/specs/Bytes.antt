@@ -1,4 +1,4 @@
--- Fields of a list of bytes, low byte first. Past the end a byte is 0. Definitions only.
+-- Fields of a list of bytes, low byte first (docs/DEFINITION.md, "Words for lists"). Past the end a byte is 0. Definitions only.
 use Prim.Native.Nat.{ℕ, zero, suc, _+_, _*_}
 use mathlib.Core.Bool.{Bool, true, false, _&&_}
 use mathlib.Core.List.{List, [], _∷_}

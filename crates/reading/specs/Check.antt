@@ -1,5 +1,5 @@
--- The whole of reading: what a set and a plan are turned back for, and what they give where they are not (paper 01, "Turned-back input").
--- Definitions only.
+-- The whole of reading: what a set and a plan are turned back for, and what they give where they are not (docs/DEFINITION.md, "Refusals"
+-- and "The calls"). Definitions only.
 use Prim.Native.Nat.{ℕ, zero, suc}
 use mathlib.Core.List.{List}
 use Rattle.algebra.specs.Lists.{if_then_else_}

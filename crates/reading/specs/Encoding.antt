@@ -1,4 +1,4 @@
--- The bytes of a plan's tree (paper 01, "The plan"). Definitions only.
+-- The bytes of a plan's tree (docs/DEFINITION.md, "The plan's bytes"). Definitions only.
 use Prim.Native.Nat.{ℕ, _+_, _/_, _%_}
 use mathlib.Core.Bool.{Bool, true, false}
 use mathlib.Core.List.{List, [], _∷_, _++_}

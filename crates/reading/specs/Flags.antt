@@ -1,4 +1,4 @@
--- What 256 flags say of a list of ids. The contracts of helpers speak of them; no call of paper 01 does.
+-- What 256 flags say of a list of ids. The contracts of helpers speak of them; no answer of a call does.
 use Prim.Native.Nat.{ℕ, _<_}
 use mathlib.Core.Bool.{Bool, true}
 use mathlib.Core.Path.{_≡_}

@@ -1,4 +1,4 @@
--- The plan's bytes (paper 01, "The plan", and the numbers 6 to 9 of "Turned-back input").
+-- The plan's bytes, and the refusals 6 to 9 (docs/DEFINITION.md, "The plan's bytes").
 -- A plan is a list of bytes: 6 bytes of header, then 24 bytes for each node. Definitions only.
 use Prim.Native.Nat.{ℕ, _+_, _*_}
 use mathlib.Core.Bool.{Bool, _&&_, _||_, not}
@@ -17,7 +17,7 @@ use Rattle.reading.specs.declared.plan.Node.{Node}
 
 -- ---- The kinds
 
--- The paper's table of kinds: a row of 10 for each kind. The number of children; the largest value of each of the bytes 1 to 7, 0
+-- The table of kinds: a row of 10 for each kind. The number of children; the largest value of each of the bytes 1 to 7, 0
 -- where the kind does not list the byte; whether the kind has a list; whether it has a test.
 abbrev pub kindTable : List ℕ
 kindTable =

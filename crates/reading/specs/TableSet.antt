@@ -1,4 +1,4 @@
--- The set of tables (paper 01, "The set of tables", and the numbers 1 to 5 of "Turned-back input").
+-- The set of tables, and the refusals 1 to 5 (docs/DEFINITION.md, "Cells" and "The set of tables").
 -- A set is a list of bytes: 0 to 8 tables, one after another. A table is looked at as the bytes from its first one on.
 -- Definitions only.
 use Prim.Native.Nat.{ℕ, zero, suc, _+_, _*_, _/_, _%_, _^_}

@@ -1,4 +1,4 @@
--- The tree of a plan's nodes (paper 01, "The plan", and number 10 of "Turned-back input"). Definitions only.
+-- The tree of a plan's nodes, and refusal 10 (docs/DEFINITION.md, "The plan's bytes" and "The tree"). Definitions only.
 use Prim.Native.Nat.{ℕ, zero, suc, _+_}
 use mathlib.Core.Bool.{Bool, true, false}
 use mathlib.Core.List.{List}
@@ -47,7 +47,7 @@ nodeList node = take (node .listed) (node .list)
 abbrev pub nodeAggregate : Node → Aggregate
 nodeAggregate node = aggregateOf (node .arg) (node .column)
 
--- by the kind, as in the paper's table
+-- by the kind, as in the table of kinds
 unfoldable pub operatorBy : ℕ → Node → Operator
 operatorBy kind node =
     if eqb kind 1 then leafNode (scan (node .arg) (node .id)) else

@@ -1,5 +1,5 @@
--- The answer of the reporting call (paper 01, "Turned-back input, lowest number first" and the paragraph below that heading). A set and a
--- plan are lists of bytes. Definitions only.
+-- The report, and the answer of the reporting call (docs/DEFINITION.md, "Rows" and "The calls"). A set and a plan are lists of bytes.
+-- Definitions only.
 use Prim.Native.Nat.{ℕ, zero, suc, _*_, _-_}
 use mathlib.Core.Path.{_≡_}
 use mathlib.Core.List.{List, _++_, map}

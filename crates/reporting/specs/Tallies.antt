@@ -1,4 +1,4 @@
--- A tally: what the measured cells of the rows that passed come to, for all four aggregates (paper 01, "The plan"). Definitions only.
+-- A tally: what the measured cells of the rows that passed come to, for all four aggregates (docs/DEFINITION.md, "Aggregates"). Definitions only.
 use Prim.Native.Nat.{ℕ, _+_, _*_, _≤_, min, max}
 use mathlib.Core.Bool.{not, cond, _||_}
 use mathlib.Core.Path.{_≡_}

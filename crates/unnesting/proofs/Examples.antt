@@ -1,4 +1,4 @@
--- The examples M1 to M9 of the paper, computed. Assumes nothing.
+-- The examples M1 to M9, computed. Assumes nothing.
 use mathlib.Core.Path.{refl}
 use Rattle.algebra.specs.Cells.{compares, aggregate}
 use Rattle.algebra.specs.Plans.{truth, columns, gather, emit, act, joined, eval}

@@ -1,4 +1,4 @@
--- Demand 3 over bytes, whole (paper 01, "The eight unnestings"). Definitions only; the proof is `demand-3` of proofs/Demand3.antt.
+-- Demand 3 over bytes, whole (docs/DEFINITION.md, "The three demands"). Definitions only; the proof is `demand-3` of proofs/Demand3.antt.
 -- A set and a plan are lists of bytes. That each is below 256 is not asked for: the claim holds of any lists of numbers that the reading
 -- of bytes does not turn back.
 use Prim.Native.Nat.{ℕ, zero, suc, _+_, _*_, _≤_}

@@ -1,4 +1,4 @@
--- The examples M1 to M9 of the paper ("Tried examples"), as rows of one claim. Definitions only; the proof is `examples` of
+-- The examples M1 to M9 (docs/DEFINITION.md, "The examples"), as rows of one claim. Definitions only; the proof is `examples` of
 -- proofs/Examples.antt.
 use Prim.Native.Nat.{ℕ, _+_, _*_}
 use mathlib.Core.Bool.{Bool, true, false}

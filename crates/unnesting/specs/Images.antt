@@ -1,5 +1,5 @@
--- The 24 bytes of a node (paper 01, "The plan"), and bytes written at a place. The contracts of helpers speak of these; the bytes of a plan's
--- tree are the reading layer's `planBytes`. Definitions only.
+-- The 24 bytes of a node (docs/DEFINITION.md, "A node"), and bytes written at a place. The contracts of helpers speak of these; the bytes
+-- of a plan's tree are the reading layer's `planBytes`. Definitions only.
 use Prim.Native.Nat.{ℕ, _+_}
 use mathlib.Core.Bool.{Bool, false}
 use mathlib.Core.List.{List, [], _∷_, _++_}

@@ -1,5 +1,5 @@
--- The links of U1, U2 and U5 (paper 01, "The eight unnestings"): a comparison between a column of e and a column of g, where f is a Select over g.
--- The contracts of helpers speak of these; the links are the algebra's `linkOf`. Definitions only.
+-- The links of U1, U2 and U5 (docs/DEFINITION.md, "Words of the rules"): a comparison between a column of e and a column of g, where f is
+-- a Select over g. The contracts of helpers speak of these; the links are the algebra's `linkOf`. Definitions only.
 use Prim.Native.Nat.{ℕ, _+_}
 use mathlib.Core.Bool.{Bool, _&&_}
 use mathlib.Core.Path.{_≡_}

@@ -1,4 +1,4 @@
--- The answer of the stay note call (paper 01, "The eight unnestings"). A set and a plan are lists of bytes. Definitions only.
+-- The answer of the stay note call (docs/DEFINITION.md, "Stay notes" and "The calls"). A set and a plan are lists of bytes. Definitions only.
 use Prim.Native.Nat.{ℕ, zero, suc}
 use mathlib.Core.Path.{_≡_}
 use mathlib.Core.Logic.{_≢_}

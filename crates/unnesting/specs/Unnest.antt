@@ -1,4 +1,4 @@
--- The answer of the unnesting call (paper 01, "The eight unnestings" and "Turned-back input"). A set and a plan are lists of bytes.
+-- The answer of the unnesting call (docs/DEFINITION.md, "Steps" and "The calls"). A set and a plan are lists of bytes.
 -- Definitions only.
 use Prim.Native.Nat.{ℕ, zero, suc, max}
 use mathlib.Core.Bool.{_||_}
