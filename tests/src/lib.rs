@@ -21,6 +21,7 @@ pub mod generate;
 pub mod held;
 pub mod listings;
 pub mod nodes;
+pub mod pages;
 pub mod plan;
 pub mod random;
 pub mod rules;

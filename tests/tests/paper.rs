@@ -6,7 +6,7 @@ use second::cells::{BLANK, LARGEST, OFF_SCALE};
 use second::check::{columns, need};
 use second::edges::{club, edges, every_kind};
 use second::generate::Input;
-use second::nodes::write_plan;
+use second::nodes::{write_plan, HEADER, NODE};
 use second::plan::Comparison::{AtLeast, AtMost, Equal, Greater, Less, NotEqual};
 use second::plan::{Aggregate, Plan, Test, ALWAYS};
 use second::rules::{fit, free_id, stay_positions, try_step, weight};
@@ -133,6 +133,32 @@ fn the_table_of_refusals() {
     assert_eq!(report(&set, &plan, 1, 0), Err(16));
     assert_eq!(report(&set, &plan, 2, 4097), Err(16));
     assert_eq!(report(&set, &plan, 2, 4098).map(|report| report.codes), Ok(vec![0, 3]));
+}
+
+/// The table of two faults in docs/DEFINITION.md.
+#[test]
+fn of_two_faults_the_first_in_order_decides() {
+    let unit = write_plan(&Plan::Unit);
+    let number = |set: &[u8], plan: &[u8]| read(set, plan).err();
+    let selects = select(ALWAYS, select(ALWAYS, select(ALWAYS, select(ALWAYS, Plan::Unit))));
+    let mut childless = write_plan(&selects)[..HEADER + 4 * NODE].to_vec();
+    childless[5] = 4;
+    assert_eq!(number(b"", &childless), Some(10));
+    childless[HEADER + 3 * NODE + 7] = 1;
+    assert_eq!(number(b"", &childless), Some(9));
+    let mut second_version = write_set(&[one_column(&[LARGEST + 1]), sized(1, 1)]);
+    second_version[12 + 3] = 2;
+    assert_eq!(number(&second_version, &unit), Some(4));
+    assert_eq!(number(b"TBL", &unit[..5]), Some(1));
+    assert_eq!(number(b"", b"RPT\x01\x00\x00\x00"), Some(8));
+    let unseen = select(ALWAYS, select(number_test(9, Equal, 1), scan(5, 0)));
+    assert_eq!(refusal(&[sized(1, 1)], &unseen), Some(11));
+    let wide = cross(cross(scan(0, 0), scan(0, 16)), scan(1, 32));
+    let tall = cross(scan(2, 40), scan(3, 41));
+    let tables = [sized(16, 1), sized(1, 1), sized(1, 1000), sized(1, 5)];
+    assert_eq!(refusal(&tables, &tall), Some(14));
+    assert_eq!(refusal(&tables, &semi(0, 40, ALWAYS, wide, tall)), Some(13));
+    assert_eq!(report(&write_set(&[sized(2, 1)]), &write_plan(&scan(0, 0)), 0, 0), Err(16));
 }
 
 #[test]
