@@ -101,7 +101,7 @@ fn names_in_view(plan: &Plan, tables: &[Table], outer: &[u8]) -> bool {
     test_is_in_view
         && own_names_are_in_view
         && children.iter().enumerate().all(|(number, child)| {
-            let nested = number == 1 && matches!(plan.kind(), 8..=11);
+            let nested = number == 1 && plan.is_nested();
             names_in_view(child, tables, if nested { &inner_view } else { outer })
         })
 }
@@ -139,8 +139,13 @@ pub fn bound(plan: &Plan, tables: &[Table]) -> u64 {
     }
 }
 
+/// The parts that the need of an accepted plan is the sum of, in cells: one for each node, in pre-order, and 4,096 besides.
+pub fn need_parts(plan: &Plan, tables: &[Table]) -> Vec<u64> {
+    let cells = |node: &Plan| bound(node, tables) * columns(node, tables).len() as u64;
+    plan.nodes().into_iter().map(cells).chain([4096]).collect()
+}
+
 /// The need in cells of a plan that is accepted.
 pub fn need(plan: &Plan, tables: &[Table]) -> u64 {
-    let cells = |node: &Plan| bound(node, tables) * columns(node, tables).len() as u64;
-    4096 + plan.nodes().into_iter().map(cells).sum::<u64>()
+    need_parts(plan, tables).iter().sum()
 }

@@ -1,16 +1,13 @@
 //! The sample club drawn as text: its bytes, its plans as trees with their rows, and the listing.
 
 use crate::calls::{cell_text, listing, unnest_tree, ROOMY};
-use crate::check::{bound, columns, need};
+use crate::check::{bound, columns, need, need_parts};
 use crate::edges::club;
 use crate::evaluate::{rows, Scope};
 use crate::nodes::{write_plan, HEADER};
 use crate::plan::{Aggregate, Comparison, Form, Keys, Plan, Test, ALWAYS};
 use crate::rules::weight;
 use crate::tables::{write_table, Table};
-
-/// The cells that a need has besides those of the nodes.
-const BESIDES: u64 = 4096;
 
 /// The drawings of the sample club, each under its name.
 pub fn drawings() -> Vec<(String, String)> {
@@ -226,11 +223,7 @@ pub fn tree_drawing(plan: &Plan, tables: &[Table]) -> String {
 
 /// The line with a plan's weight and the sum that its need is.
 fn sums(plan: &Plan, tables: &[Table]) -> String {
-    let region = |node: &&Plan| bound(node, tables) * columns(node, tables).len() as u64;
-    let mut parts: Vec<u64> = plan.nodes().iter().map(region).collect();
-    parts.push(BESIDES);
-    assert_eq!(parts.iter().sum::<u64>(), need(plan, tables), "the parts of a need");
-    let parts = parts.into_iter().map(with_commas).collect::<Vec<_>>().join(" + ");
+    let parts = need_parts(plan, tables).into_iter().map(with_commas).collect::<Vec<_>>().join(" + ");
     format!("weight {}; need {parts} = {}\n", weight(plan), with_commas(need(plan, tables)))
 }
 
@@ -257,8 +250,7 @@ fn add_runs(plan: &Plan, place: usize, tables: &[Table], outer: Option<&Scope>, 
     let children = plan.children();
     let mut start = place + 1;
     for (number, child) in children.iter().enumerate() {
-        let nested = number == 1 && matches!(plan.kind(), 8..=11);
-        if nested {
+        if number == 1 && plan.is_nested() {
             let ids = columns(children[0], tables);
             for row in rows(children[0], tables, outer) {
                 add_runs(child, start, tables, Some(&Scope { ids: &ids, row: &row, outer }), runs);

@@ -194,6 +194,11 @@ impl Plan {
         }
     }
 
+    /// Whether the second child is an inner plan, which is run for each left row.
+    pub fn is_nested(&self) -> bool {
+        matches!(self.kind(), 8..=11)
+    }
+
     /// The node's own test, for the kinds that have one.
     pub fn test(&self) -> Option<&Test> {
         match self {
