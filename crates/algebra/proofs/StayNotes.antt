@@ -1,42 +1,74 @@
--- A stay note's two sequences differ at a position, or just one has ended there. Assumes nothing.
-use Prim.Native.Nat.{ℕ, suc}
+-- A stay note's two sequences have a first difference, and the length of their common beginning is its position. Assumes nothing.
+use Prim.Native.Nat.{ℕ, zero, suc, _≤_, _<_}
 use mathlib.Core.Bool.{Bool, true, false, cond, _&&_, true≢false}
-use mathlib.Core.Path.{_≡_, refl, sym, _∙_, subst}
-use mathlib.Core.Logic.{_≢_}
+use mathlib.Core.Path.{_≡_, refl, sym, ap, _∙_, subst}
 use mathlib.Core.List.{List, [], _∷_}
 use mathlib.Core.Option.{Option, none, some, Option·some-ne-none, Option·none-ne-some, Option·some-injective}
-use lib.ListN.{getElem?}
-use borrow.Author.Tests.{not-true, eq-eqb}
-use Rattle.algebra.specs.Lists.{every, same, sameRows}
+use native.Mathlib.Omega.{arith}
+use lib.ListN.{length, getElem?}
+use borrow.Author.Tests.{not-true}
+use Rattle.algebra.specs.Lists.{every, same, sameRows, commonBeginning}
 use Rattle.algebra.specs.Plans.{Row, Tables, isPlain, distinct, cross, semi, quant, fold, each, pair, Plan, leaf, one, two, eval}
 use Rattle.algebra.specs.Places.{modify, look}
 use Rattle.algebra.specs.Refusals.{passes}
 use Rattle.algebra.specs.Rules.{Top, top, Only, only, another, onlyOf, when, outside, bare, u3Conditions, u3, u6Conditions, u6, u7, ruleOf, unnest, fresh}
 use Rattle.algebra.specs.Steps.{accepted}
-use Rattle.algebra.specs.StayNotes.{Sequences, nothing, sequencesOf, comparing, unsequenced, stays, noted, noteAt}
-use Rattle.algebra.proofs.Lists.{every-true}
+use Rattle.algebra.specs.StayNotes.{Sequences, nothing, sequencesOf, comparing, unsequenced, stays, noted, noteAt, firstDifference, SmallestDifference}
+use Rattle.algebra.proofs.Lists.{every-true, same-true, same-self}
 use Rattle.algebra.proofs.Change.{OnSome, on-when, look-root, changed}
 
--- ---- a note has a position
-pub difference : List Row → List Row → ℕ
-difference [] ys = 0
-difference (x ∷ xs) [] = 0
-difference (x ∷ xs) (y ∷ ys) = cond (same x y) (suc (difference xs ys)) 0
+-- ---- the first difference
 
-same-refl : (xs : List ℕ) → same xs xs ≡ true
-same-refl [] = refl
-same-refl (x ∷ xs) = rw (eq-eqb x x refl) (same-refl xs)
+-- behind one equal row more it is one further
+smallest-next : (x y : Row) (xs ys : List Row) (i : ℕ) → x ≡ y → SmallestDifference xs ys i → SmallestDifference (x ∷ xs) (y ∷ ys) (suc i)
+smallest-next x y xs ys i e s = record { differ = s .differ; alikeBefore = before }
+  where
+    before : (j : ℕ) → j < suc i → getElem? (x ∷ xs) j ≡ getElem? (y ∷ ys) j
+    before zero l = ap some e
+    before (suc j) l = s .alikeBefore j (omega arith)
 
-pub differs : (xs ys : List Row) → sameRows xs ys ≡ false → getElem? xs (difference xs ys) ≢ getElem? ys (difference xs ys)
-unfolding difference
-differs [] [] h = absurd (true≢false h)
-differs [] (y ∷ ys) h = λ e. Option·none-ne-some _ e
-differs (x ∷ xs) [] h = λ e. Option·some-ne-none _ e
-differs (x ∷ xs) (y ∷ ys) h =
-    (elim (same x y) as (λ b. same x y ≡ b → b && sameRows xs ys ≡ false → getElem? (x ∷ xs) (cond b (suc (difference xs ys)) 0) ≢ getElem? (y ∷ ys) (cond b (suc (difference xs ys)) 0)) [
-      | true ↦ λ e k. differs xs ys k
-      | false ↦ λ e k z. true≢false (sym (subst (λ v. same x v ≡ true) (Option·some-injective x y z) (same-refl x)) ∙ e)
+-- two sequences that are not the same have it
+pub smallest-first : (xs ys : List Row) → sameRows xs ys ≡ false → SmallestDifference xs ys (firstDifference xs ys)
+smallest-first [] [] h = absurd (true≢false h)
+smallest-first [] (y ∷ ys) h = record { differ = λ e. Option·none-ne-some _ e; alikeBefore = λ i l. absurd (omega arith) }
+smallest-first (x ∷ xs) [] h = record { differ = λ e. Option·some-ne-none _ e; alikeBefore = λ i l. absurd (omega arith) }
+smallest-first (x ∷ xs) (y ∷ ys) h =
+    (elim (same x y) as (λ b. same x y ≡ b → b && sameRows xs ys ≡ false → SmallestDifference (x ∷ xs) (y ∷ ys) (length (cond b (x ∷ commonBeginning xs ys) []))) [
+      | true ↦ λ e k. smallest-next x y xs ys (firstDifference xs ys) (same-true x y e) (smallest-first xs ys k)
+      | false ↦ λ e k. record {
+        differ = λ z. true≢false (sym (subst (λ v. same x v ≡ true) (Option·some-injective x y z) (same-self x)) ∙ e);
+        alikeBefore = λ i l. absurd (omega arith);
+      }
     ]) refl h
+
+-- no other position is the smallest
+pub first-only : (xs ys : List Row) (i : ℕ) → SmallestDifference xs ys i → i ≡ firstDifference xs ys
+first-only [] [] i s = absurd (s .differ refl)
+first-only [] (y ∷ ys) zero s = refl
+first-only [] (y ∷ ys) (suc i) s = absurd (Option·none-ne-some _ (s .alikeBefore 0 (omega arith)))
+first-only (x ∷ xs) [] zero s = refl
+first-only (x ∷ xs) [] (suc i) s = absurd (Option·some-ne-none _ (s .alikeBefore 0 (omega arith)))
+first-only (x ∷ xs) (y ∷ ys) zero s =
+    (elim (same x y) as (λ b. same x y ≡ b → 0 ≡ length (cond b (x ∷ commonBeginning xs ys) [])) [
+      | true ↦ λ e. absurd (s .differ (ap some (same-true x y e)))
+      | false ↦ λ e. refl
+    ]) refl
+first-only (x ∷ xs) (y ∷ ys) (suc i) s =
+    let e : x ≡ y = Option·some-injective x y (s .alikeBefore 0 (omega arith)) in
+    let k : same x y ≡ true = subst (λ v. same x v ≡ true) e (same-self x) in
+    rw k (ap suc (first-only xs ys i (record { differ = s .differ; alikeBefore = λ j l. s .alikeBefore (suc j) (omega arith) })))
+
+-- it lies within the first sequence, or at its end
+pub first-within : (xs ys : List Row) → firstDifference xs ys ≤ length xs
+first-within [] ys = omega arith
+first-within (x ∷ xs) [] = omega arith
+first-within (x ∷ xs) (y ∷ ys) =
+    elim (same x y) as (λ b. length (cond b (x ∷ commonBeginning xs ys) []) ≤ suc (length xs)) [
+      | true ↦ let h = first-within xs ys in omega arith
+      | false ↦ omega arith
+    ]
+
+-- ---- a note has one
 
 abbrev Differ : Sequences → Type 0
 Differ s = sameRows (s .first) (s .second) ≡ false
@@ -86,19 +118,16 @@ module _ (T : Tables) (c : Option ℕ) where
       changed (stays T c) (λ p i q. Differ (look (sequencesOf T) nothing p i)) (λ p. rw (look-root (sequencesOf T) nothing p) (noted-stays p)) (λ u p j q h. h) (λ b e f j q z h. rw z h)
       (λ b e f j q z h. rw z h)
 
--- a note's sequences differ, at the position that `difference` finds
-pub note-differs : (T : Tables) (p : Plan) (i : ℕ) (s : Sequences) → noteAt T p i ≡ some s
-    → getElem? (s .first) (difference (s .first) (s .second)) ≢ getElem? (s .second) (difference (s .first) (s .second))
+-- a note's sequences have a first difference
+pub note-smallest : (T : Tables) (p : Plan) (i : ℕ) (s : Sequences) → noteAt T p i ≡ some s
+    → SmallestDifference (s .first) (s .second) (firstDifference (s .first) (s .second))
 unfolding noteAt
-note-differs T p i s e = go (modify (stays T (fresh T p)) p i) (look (sequencesOf T) nothing p i) (noted-modify T (fresh T p) p i) e
+note-smallest T p i s e = smallest-first (s .first) (s .second) (go (modify (stays T (fresh T p)) p i) (look (sequencesOf T) nothing p i) (noted-modify T (fresh T p) p i) e)
   where
-    go : (o : Option Plan) (z : Sequences) → Noted z o → noted z (accepted T o) ≡ some s
-        → getElem? (s .first) (difference (s .first) (s .second)) ≢ getElem? (s .second) (difference (s .first) (s .second))
+    go : (o : Option Plan) (z : Sequences) → Noted z o → noted z (accepted T o) ≡ some s → Differ s
     go none z h e = absurd (Option·none-ne-some _ e)
     go (some q) z h e =
-        (elim (passes T q) as
-        (λ b. noted z (when b q) ≡ some s → getElem? (s .first) (difference (s .first) (s .second)) ≢ getElem? (s .second) (difference (s .first) (s .second))) [
-          | true ↦ λ k. subst (λ y. getElem? (y .first) (difference (y .first) (y .second)) ≢ getElem? (y .second) (difference (y .first) (y .second)))
-              (Option·some-injective z s k) (differs (z .first) (z .second) h)
+        (elim (passes T q) as (λ b. noted z (when b q) ≡ some s → Differ s) [
+          | true ↦ λ k. subst Differ (Option·some-injective z s k) h
           | false ↦ λ k. absurd (Option·none-ne-some _ k)
         ]) e

@@ -1,9 +1,13 @@
 -- Stay notes: where U3, U4 or U6 fails only because the sequences differ (docs/DEFINITION.md, "Stay notes"). Definitions only.
-use Prim.Native.Nat.{ℕ}
+use Prim.Native.Nat.{ℕ, _<_}
 use mathlib.Core.Bool.{Bool, not, cond, _||_}
+use mathlib.Core.Logic.{_≢_}
+use mathlib.Core.Path.{_≡_}
 use mathlib.Core.List.{List, [], _∷_}
 use mathlib.Core.Option.{Option, none, some}
 use lib.Dec.{eqb}
+use lib.ListN.{length, getElem?}
+use Rattle.algebra.specs.Lists.{commonBeginning}
 use Rattle.algebra.specs.Plans.{Row, Tables, distinct, cross, semi, quant, fold, each, pair, Plan, leaf, one, two, eval}
 use Rattle.algebra.specs.Places.{modify, look}
 use Rattle.algebra.specs.Rules.{outside, sequenced, Sequence, top, bare, ruleOf, unnest, fresh}
@@ -43,3 +47,14 @@ noted s (some q) = some s
 
 unfoldable pub noteAt : Tables → Plan → ℕ → Option Sequences
 noteAt T p i = noted (look (sequencesOf T) nothing p i) (accepted T (modify (stays T (fresh T p)) p i))
+
+-- ---- the position
+
+-- how many rows the common beginning of two sequences has; the cells are compared by code
+abbrev pub firstDifference : List Row → List Row → ℕ
+firstDifference xs ys = length (commonBeginning xs ys)
+
+-- That it is the smallest position, from 0, at which the sequences differ or just one has ended: past its end a sequence has no row.
+pub record SmallestDifference (xs ys : List Row) (position : ℕ) : Type 0 where
+  pub differ : getElem? xs position ≢ getElem? ys position
+  pub alikeBefore : (i : ℕ) → i < position → getElem? xs i ≡ getElem? ys i

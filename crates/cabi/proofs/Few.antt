@@ -1,22 +1,22 @@
 -- The numbers of an unnesting or stay note answer are small, so that they fit a word of 64 bits together. Assumes nothing.
 use Prim.Native.Nat.{ℕ, zero, suc, _-_, _≤_}
 use mathlib.Core.Bool.{true, false, cond}
-use mathlib.Core.Path.{_≡_, refl, sym, _∙_, subst}
-use mathlib.Core.List.{List, [], _∷_}
-use mathlib.Core.Option.{Option, none, some, Option·some-injective, Option·some-ne-none, Option·none-ne-some}
-use native.Mathlib.Decide.{decLe}
+use mathlib.Core.Path.{_≡_, refl, sym, subst}
+use mathlib.Core.List.{List}
+use mathlib.Core.Option.{Option, none, some}
 use native.Mathlib.Omega.{arith}
 use lib.Dec.{ltb}
-use lib.ListN.{length, getElem?}
+use lib.ListN.{length}
 use Rattle.algebra.specs.Lists.{all}
-use Rattle.algebra.specs.Plans.{Tables, select, project, distinct, group, sort, cross, semi, quant, fold, each, pair, Plan, leaf, one, two}
+use Rattle.algebra.specs.Plans.{Tables, cross, semi, quant, fold, each, pair, Plan, leaf, one, two}
 use Rattle.algebra.specs.Places.{size, subtrees, modify, look}
-use Rattle.algebra.specs.Refusals.{bound, low}
-use Rattle.algebra.specs.Rules.{outside, top, bare, fresh}
+use Rattle.algebra.specs.Refusals.{low}
+use Rattle.algebra.specs.Rules.{outside, fresh}
 use Rattle.algebra.specs.Steps.{accepted}
 use Rattle.algebra.specs.StayNotes.{Sequences, nothing, sequencesOf, stays, noted, noteAt}
 use Rattle.algebra.proofs.Refusals.{all-root, all-child, all-left, all-right, refusal-low, low-rows}
 use Rattle.algebra.proofs.Steps.{run-3, run-length, weight-size}
+use Rattle.algebra.proofs.StayNotes.{first-within}
 use Rattle.reading.specs.TableSet.{tablesOf}
 use Rattle.reading.specs.Tree.{planOf}
 use Rattle.reading.specs.Check.{orNext, inputRefusal}
@@ -24,7 +24,9 @@ use Rattle.reading.proofs.PlanBytes.{plan-passed}
 use Rattle.reading.proofs.Places.{whole-size}
 use Rattle.reporting.specs.Report.{countAfter}
 use Rattle.unnesting.specs.Unnest.{unnestSteps, unnestNumber, writtenPlan, Unnested}
-use Rattle.unnesting.specs.StayNote.{stayNumber, noteDue, Differ, dueAfter, Allowed, StayNoted}
+use Rattle.unnesting.specs.StayNote.{stayNumber, noteDue, noteOf, noteAfter, StayNoted}
+use Rattle.unnesting.specs.declared.stay_note.StayNote.{StayNote}
+use Rattle.unnesting.specs.declared.stay_note.StayNote.the-variants.{Refused, None, Position}
 use Rattle.unnesting.proofs.Demand3.{input-parts, demand-3}
 
 -- ---- a call that does not refuse has accepted its input
@@ -64,46 +66,27 @@ unnested-few set plan planOut planOut′ stepsOut stepsOut′ scratch scratch′
     let b : countAfter z (length (writtenPlan set plan)) ≤ 1542 = few z _ 1542 (λ h. bytes-few set plan (a h)) in
     (omega (arith, e .stepCount), omega (arith, e .byteCount))
 
--- ---- stay notes: two sequences of at most 4,096 rows differ below position 4,096
+-- ---- stay notes: a sequence has at most 4,096 rows, and the first difference lies within the first one or at its end
 
 abbrev Short : Sequences → Type 0
-Short s = (length (s .first) ≤ 4096) × (length (s .second) ≤ 4096)
+Short s = length (s .first) ≤ 4096
 
 module _ (T : Tables) where
-  bare-low : (f : Plan) → all (low T) (subtrees f) ≡ true → low T (bare (top f)) ≡ true
-  bare-low (leaf x) h = all-root (low T) (leaf x) h
-  bare-low (one (select s) g) h = all-root (low T) g (all-child (low T) (select s) g h)
-  bare-low (one (project ids) g) h = all-root (low T) (one (project ids) g) h
-  bare-low (one (distinct ids) g) h = all-root (low T) (one (distinct ids) g) h
-  bare-low (one (group a n l r c t) g) h = all-root (low T) (one (group a n l r c t) g) h
-  bare-low (one (sort d ids) g) h = all-root (low T) (one (sort d ids) g) h
-  bare-low (two b e f) h = all-root (low T) (two b e f) h
-
-  distinct-low : (ids : List ℕ) (p : Plan) → low T p ≡ true → low T (one (distinct ids) p) ≡ true
-  unfolding bound
-  distinct-low ids p h = h
-
   sequences-short : (p : Plan) → all (low T) (subtrees p) ≡ true → Short (sequencesOf T p)
   unfolding sequencesOf
-  sequences-short (leaf x) h = (omega arith, omega arith)
-  sequences-short (one u p) h = (omega arith, omega arith)
-  sequences-short (two cross e f) h = (omega arith, omega arith)
-  sequences-short (two (semi m l r t) e f) h = (
-    low-rows T e (all-root (low T) e (all-left (low T) (semi m l r t) e f h)) outside,
-    low-rows T (one (distinct (r ∷ [])) (bare (top f))) (distinct-low (r ∷ []) (bare (top f)) (bare-low f (all-right (low T) (semi m l r t) e f h))) outside,
-  )
-  sequences-short (two (quant m t) e f) h = (omega arith, omega arith)
-  sequences-short (two (fold a n t) e f) h = (omega arith, omega arith)
-  sequences-short (two each e f) h = (omega arith, omega arith)
-  sequences-short (two (pair a n l r c t) e f) h = (
-    low-rows T e (all-root (low T) e (all-left (low T) (pair a n l r c t) e f h)) outside,
-    low-rows T (one (distinct (r ∷ [])) f) (distinct-low (r ∷ []) f (all-root (low T) f (all-right (low T) (pair a n l r c t) e f h))) outside,
-  )
+  sequences-short (leaf x) h = omega arith
+  sequences-short (one u p) h = omega arith
+  sequences-short (two cross e f) h = omega arith
+  sequences-short (two (semi m l r t) e f) h = low-rows T e (all-root (low T) e (all-left (low T) (semi m l r t) e f h)) outside
+  sequences-short (two (quant m t) e f) h = omega arith
+  sequences-short (two (fold a n t) e f) h = omega arith
+  sequences-short (two each e f) h = omega arith
+  sequences-short (two (pair a n l r c t) e f) h = low-rows T e (all-root (low T) e (all-left (low T) (pair a n l r c t) e f h)) outside
 
   look-short : (p : Plan) (i : ℕ) → all (low T) (subtrees p) ≡ true → Short (look (sequencesOf T) nothing p i)
   unfolding look
   look-short (leaf x) zero h = sequences-short (leaf x) h
-  look-short (leaf x) (suc i) h = (omega arith, omega arith)
+  look-short (leaf x) (suc i) h = omega arith
   look-short (one u p) zero h = sequences-short (one u p) h
   look-short (one u p) (suc i) h = look-short p i (all-child (low T) u p h)
   look-short (two b e f) zero h = sequences-short (two b e f) h
@@ -113,43 +96,29 @@ module _ (T : Tables) where
         | false ↦ look-short f (i - size e) (all-right (low T) b e f h)
       ]
 
-  noted-short : (z s : Sequences) (o : Option Plan) → noted z o ≡ some s → Short z → Short s
-  noted-short z s none e h = absurd (Option·none-ne-some _ e)
-  noted-short z s (some q) e h = subst Short (Option·some-injective z s e) h
+-- the position of a note, 0 where there is none
+abbrev pub positionOf : StayNote → ℕ
+positionOf (Refused number) = 0
+positionOf None = 0
+positionOf (Position position) = position
 
-  note-short : (p : Plan) (i : ℕ) (s : Sequences) → all (low T) (subtrees p) ≡ true → noteAt T p i ≡ some s → Short s
-  unfolding noteAt
-  note-short p i s h e = noted-short (look (sequencesOf T) nothing p i) s (accepted T (modify (stays T (fresh T p)) p i)) e (look-short p i h)
+-- the note at a place gives the first difference of the sequences there, or none
+noted-position : (s : Sequences) (o : Option Plan) → Short s → positionOf (noteOf (noted s o)) ≤ 4096
+noted-position s none h = omega arith
+noted-position s (some q) h = omega (arith, first-within (s .first) (s .second))
 
-past-end : {A : Type 0} (xs : List A) (i : ℕ) → length xs ≤ i → getElem? xs i ≡ none
-past-end [] i h = refl
-past-end (x ∷ xs) zero h = absurd (omega arith)
-past-end (x ∷ xs) (suc i) h = past-end xs i (omega arith)
+due-few : (set plan : List ℕ) (place : ℕ) → inputRefusal set plan ≡ 0 → positionOf (noteOf (noteDue set plan place)) ≤ 4096
+unfolding noteAt
+due-few set plan place a =
+    let T : Tables = tablesOf set in
+    let p : Plan = planOf plan in
+    let lows = refusal-low T p (plan-passed set plan (input-parts set plan a .1) .unrefused) in
+    noted-position (look (sequencesOf T) nothing p place) (accepted T (modify (stays T (fresh T p)) p place)) (look-short T p place lows)
 
-differ-few : (s : Sequences) (position : ℕ) → Short s → Differ s position → position ≤ 4096
-differ-few s position h d =
-    elim (decLe position 4096) [
-      | yes l ↦ l
-      | no l ↦ absurd (d (past-end (s .first) position (omega (arith, h .0)) ∙ sym (past-end (s .second) position (omega (arith, h .1)))))
-    ]
-
-due-few : (set plan : List ℕ) (place position : ℕ) → inputRefusal set plan ≡ 0 → Allowed (noteDue set plan place) (some position) → position ≤ 4096
-due-few set plan place position a h = by (noteDue set plan place) refl h
-  where
-    T : Tables
-    T = tablesOf set
-
-    lows : all (low T) (subtrees (planOf plan)) ≡ true
-    lows = refusal-low T (planOf plan) (plan-passed set plan (input-parts set plan a .1) .unrefused)
-
-    by : (o : Option Sequences) → noteDue set plan place ≡ o → Allowed o (some position) → position ≤ 4096
-    by none e h = absurd (Option·some-ne-none _ h)
-    by (some s) e h = differ-few s position (note-short T (planOf plan) place s lows e) h
-
-pub noted-few : (set plan : List ℕ) (place : ℕ) (scratch scratch′ : List ℕ) (refusal position : ℕ) → StayNoted set plan place scratch scratch′ refusal (some position) → position ≤ 4096
+pub noted-few : (set plan : List ℕ) (place : ℕ) (scratch scratch′ : List ℕ) (r : StayNote) → StayNoted set plan place scratch scratch′ r → positionOf r ≤ 4096
 unfolding stayNumber
-noted-few set plan place scratch scratch′ refusal position n = by (stayNumber set plan (length scratch)) refl (n .position)
+noted-few set plan place scratch scratch′ r n = subst (λ (x : StayNote). positionOf x ≤ 4096) (sym (n .answer)) (by (stayNumber set plan (length scratch)) refl)
   where
-    by : (k : ℕ) → stayNumber set plan (length scratch) ≡ k → Allowed (dueAfter k (noteDue set plan place)) (some position) → position ≤ 4096
-    by zero e h = due-few set plan place position (or-next (inputRefusal set plan) _ e) h
-    by (suc k) e h = absurd (Option·some-ne-none _ h)
+    by : (k : ℕ) → stayNumber set plan (length scratch) ≡ k → positionOf (noteAfter k (noteDue set plan place)) ≤ 4096
+    by zero e = due-few set plan place (or-next (inputRefusal set plan) _ e)
+    by (suc k) e = omega arith

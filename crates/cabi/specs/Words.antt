@@ -3,12 +3,13 @@
 use Prim.Native.Nat.{ℕ, _+_, _*_}
 use mathlib.Core.Path.{_≡_}
 use mathlib.Core.List.{List}
-use mathlib.Core.Option.{Option, none, some}
 use lib.IntN.{ℤ}
 use Rattle.reporting.specs.declared.answer.Report.{Report}
 use Rattle.reporting.specs.Report.{Reported}
 use Rattle.unnesting.specs.Unnest.{Unnested}
 use Rattle.unnesting.specs.StayNote.{StayNoted}
+use Rattle.unnesting.specs.declared.stay_note.StayNote.{StayNote}
+use Rattle.unnesting.specs.declared.stay_note.StayNote.the-variants.{Refused, None, Position}
 
 -- ---- the words
 
@@ -21,9 +22,10 @@ abbrev pub unnestWord : ℕ → ℕ → ℕ → ℕ
 unnestWord refusal steps bytes = refusal + 256 * steps + 16777216 * bytes
 
 -- the refusal, 0 where there is no note; a note is 2 ^ 8 + 2 ^ 16 · position
-abbrev pub stayWord : ℕ → Option ℕ → ℕ
-stayWord refusal none = refusal
-stayWord refusal (some position) = 256 + 65536 * position
+abbrev pub stayWord : StayNote → ℕ
+stayWord (Refused number) = number
+stayWord None = 0
+stayWord (Position position) = 256 + 65536 * position
 
 -- ---- the calls: the word holds an answer that is the lower layer's, with its buffers
 
@@ -40,7 +42,6 @@ pub record UnnestCalled (set plan planOut planOut′ stepsOut stepsOut′ scratc
   pub encoded : word ≡ unnestWord refusal steps bytes
 
 pub record StayNoteCalled (set plan : List ℕ) (place : ℕ) (scratch scratch′ : List ℕ) (word : ℕ) : Type 0 where
-  pub refusal : ℕ
-  pub note : Option ℕ
-  pub noted : StayNoted set plan place scratch scratch′ refusal note
-  pub encoded : word ≡ stayWord refusal note
+  pub answer : StayNote
+  pub noted : StayNoted set plan place scratch scratch′ answer
+  pub encoded : word ≡ stayWord answer

@@ -13,7 +13,7 @@ pub mod Widths
 pub mod SequenceLaws
 pub mod Demand3
 pub mod UnnestLaws
-pub mod StayNote
+pub mod Calls
 pub mod Examples
 pub mod Runs
 pub mod ShapeLaws

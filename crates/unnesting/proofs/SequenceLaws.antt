@@ -12,13 +12,14 @@ use lib.Dec.{eqb}
 use lib.ListN.{length, getD, getElem?, take, set as put, replicate, length-append}
 use lib.Seq.{take-suc, take-all, take-at, take-suc-set}
 use borrow.Author.Tests.{eq-eqb, ne-eqb, le-ltb}
-use Rattle.algebra.specs.Lists.{isEmpty, flatMap, same, sameRows}
+use Rattle.algebra.specs.Lists.{isEmpty, flatMap, sameRows}
 use Rattle.algebra.specs.Plans.{Row, Tables, isPlain, select, distinct, Binary, cross, semi, quant, fold, each, pair, Plan, leaf, one, two, columns, eval}
 use Rattle.algebra.specs.Places.{Operator, binaryNode}
 use Rattle.algebra.specs.Refusals.{width, need}
 use Rattle.algebra.specs.Rules.{outside, Top, top, bare, Only, only, another, onlyOf, u3, u6, u7, ruleOf}
-use Rattle.algebra.specs.StayNotes.{sequencesOf, comparing}
-use Rattle.algebra.proofs.Lists.{sameRows-true}
+use Rattle.algebra.specs.StayNotes.{sequencesOf, comparing, SmallestDifference}
+use Rattle.algebra.proofs.Lists.{sameRows-true, sameRows-self}
+use Rattle.algebra.proofs.StayNotes.{first-only}
 use Rattle.algebra.proofs.Refusals.{low-rows}
 use Rattle.reading.specs.TableSet.{tablesOf}
 use Rattle.reading.specs.Plan.{nodeAt, nodesOf}
@@ -54,35 +55,41 @@ ones-past [] p h = refl
 ones-past (x ∷ xs) zero h = absurd (omega arith)
 ones-past (x ∷ xs) (suc p) h = ones-past xs p (omega arith)
 
-same-self : (xs : List ℕ) → same xs xs ≡ true
-same-self [] = refl
-same-self (x ∷ xs) = rw (eq-eqb x x refl) (same-self xs)
-
-rows-self : (xs : List Row) → sameRows xs xs ≡ true
-rows-self [] = refl
-rows-self (x ∷ xs) = rw (same-self x) (rows-self xs)
+-- what stands among the first i stands there in front of them
+ones-front : (xs : List ℕ) (i j : ℕ) → j < i → getElem? (rowsOfOne (take i xs)) j ≡ getElem? (rowsOfOne xs) j
+ones-front xs zero j h = absurd (omega arith)
+ones-front [] (suc i) j h = refl
+ones-front (x ∷ xs) (suc i) zero h = refl
+ones-front (x ∷ xs) (suc i) (suc j) h = ones-front xs i j (omega arith)
 
 -- a position at which they differ shows that they are not the same
-differ-by : (xs ys : List Row) (p : ℕ) → getElem? xs p ≢ getElem? ys p → ComparedAs xs ys (Differ p)
-differ-by xs ys p h = (
+differ-by : (xs ys : List Row) (p : ℕ) → SmallestDifference xs ys p → ComparedAs xs ys (Differ p)
+differ-by xs ys p s = (
   (elim (sameRows xs ys) as (λ b. sameRows xs ys ≡ b → b ≡ false) [
-    | true ↦ λ e. absurd (h (ap (λ (zs : List Row). getElem? zs p) (sameRows-true xs ys e)))
+    | true ↦ λ e. absurd (s .differ (ap (λ (zs : List Row). getElem? zs p) (sameRows-true xs ys e)))
     | false ↦ λ e. refl
   ]) refl,
-  h,
+  first-only xs ys p s,
 )
 
 module _ (xs ys : List ℕ) (i : ℕ) where
-  pub differ-here : i < length xs → i < length ys → (getD xs i 0 ≡ getD ys i 0 → ⊥) → ComparedAs (rowsOfOne xs) (rowsOfOne ys) (Differ i)
-  differ-here h g l =
-      differ-by (rowsOfOne xs) (rowsOfOne ys) i
-      (λ e. l (ap (λ (r : Row). getD r 0 0) (Option·some-injective _ _ (sym (ones-at xs i h) ∙ (e ∙ ones-at ys i g)))))
+  -- cells that are the same up to a position at which they differ
+  differ-cells : take i xs ≡ take i ys → getElem? (rowsOfOne xs) i ≢ getElem? (rowsOfOne ys) i → ComparedAs (rowsOfOne xs) (rowsOfOne ys) (Differ i)
+  differ-cells t h =
+      differ-by (rowsOfOne xs) (rowsOfOne ys) i (record {
+        differ = h;
+        alikeBefore = λ j l. sym (ones-front xs i j l) ∙ (ap (λ (zs : List ℕ). getElem? (rowsOfOne zs) j) t ∙ ones-front ys i j l);
+      })
 
-  pub differ-first : i < length xs → length ys ≤ i → ComparedAs (rowsOfOne xs) (rowsOfOne ys) (Differ i)
-  differ-first h g = differ-by (rowsOfOne xs) (rowsOfOne ys) i (λ e. Option·some-ne-none _ (sym (ones-at xs i h) ∙ (e ∙ ones-past ys i g)))
+  pub differ-here : i < length xs → i < length ys → (getD xs i 0 ≡ getD ys i 0 → ⊥) → take i xs ≡ take i ys → ComparedAs (rowsOfOne xs) (rowsOfOne ys) (Differ i)
+  differ-here h g l t =
+      differ-cells t (λ e. l (ap (λ (r : Row). getD r 0 0) (Option·some-injective _ _ (sym (ones-at xs i h) ∙ (e ∙ ones-at ys i g)))))
 
-  pub differ-second : length xs ≤ i → i < length ys → ComparedAs (rowsOfOne xs) (rowsOfOne ys) (Differ i)
-  differ-second h g = differ-by (rowsOfOne xs) (rowsOfOne ys) i (λ e. Option·none-ne-some _ (sym (ones-past xs i h) ∙ (e ∙ ones-at ys i g)))
+  pub differ-first : i < length xs → length ys ≤ i → take i xs ≡ take i ys → ComparedAs (rowsOfOne xs) (rowsOfOne ys) (Differ i)
+  differ-first h g t = differ-cells t (λ e. Option·some-ne-none _ (sym (ones-at xs i h) ∙ (e ∙ ones-past ys i g)))
+
+  pub differ-second : length xs ≤ i → i < length ys → take i xs ≡ take i ys → ComparedAs (rowsOfOne xs) (rowsOfOne ys) (Differ i)
+  differ-second h g t = differ-cells t (λ e. Option·none-ne-some _ (sym (ones-past xs i h) ∙ (e ∙ ones-at ys i g)))
 
   pub same-next : i < length xs → i < length ys → getD xs i 0 ≡ getD ys i 0 → take i xs ≡ take i ys → take (i + 1) xs ≡ take (i + 1) ys
   same-next h g e t = rw (add-one i) (take-suc xs i 0 h ∙ (ap₂ (λ (a : List ℕ) (c : ℕ). a ++ (c ∷ [])) t e ∙ sym (take-suc ys i 0 g)))
@@ -90,7 +97,7 @@ module _ (xs ys : List ℕ) (i : ℕ) where
   pub same-all : length xs ≤ i → length ys ≤ i → take i xs ≡ take i ys → ComparedAs (rowsOfOne xs) (rowsOfOne ys) Same
   same-all h g t =
       let e : xs ≡ ys = sym (take-all i xs h) ∙ (t ∙ take-all i ys g) in
-      subst (λ (zs : List ℕ). sameRows (rowsOfOne xs) (rowsOfOne zs) ≡ true) e (rows-self (rowsOfOne xs))
+      subst (λ (zs : List ℕ). sameRows (rowsOfOne xs) (rowsOfOne zs) ≡ true) e (sameRows-self (rowsOfOne xs))
 
 -- a cell more is copied
 pub copied-next : (copy cells : List ℕ) (k : ℕ) → k < length copy → k < length cells → take k copy ≡ take k cells → take (k + 1) (put copy k (getD cells k 0)) ≡ take (k + 1) cells

@@ -8,5 +8,6 @@ pub mod Counts
 pub mod Unnest
 pub mod Attempts
 pub mod StayNote
+pub mod Calls
 pub mod Demand3
 pub mod Examples

@@ -1,11 +1,10 @@
 -- The answer of the stay note call (docs/DEFINITION.md, "Stay notes" and "The calls"). A set and a plan are lists of bytes. Definitions only.
 use Prim.Native.Nat.{ℕ, zero, suc}
 use mathlib.Core.Path.{_≡_}
-use mathlib.Core.Logic.{_≢_}
 use mathlib.Core.List.{List}
 use mathlib.Core.Option.{Option, none, some}
-use lib.ListN.{length, getElem?}
-use Rattle.algebra.specs.StayNotes.{Sequences, noteAt}
+use lib.ListN.{length}
+use Rattle.algebra.specs.StayNotes.{Sequences, noteAt, firstDifference}
 use Rattle.reading.specs.TableSet.{tablesOf}
 use Rattle.reading.specs.Tree.{planOf}
 use Rattle.reading.specs.Check.{orNext, inputRefusal}
@@ -21,38 +20,21 @@ stayNumber set plan scratchRoom = orNext (inputRefusal set plan) (scratchNumber 
 abbrev pub noteDue : List ℕ → List ℕ → ℕ → Option Sequences
 noteDue set plan place = noteAt (tablesOf set) (planOf plan) place
 
--- a position, from 0, at which the sequences differ or just one has ended: past its end a sequence has no value
-abbrev pub Differ : Sequences → ℕ → Type 0
-Differ s position = getElem? (s .first) position ≢ getElem? (s .second) position
+-- a note that is due gives its sequences' first difference
+abbrev pub noteOf : Option Sequences → StayNote
+noteOf none = None
+noteOf (some s) = Position (firstDifference (s .first) (s .second))
 
--- a refused call gives no note
-abbrev pub dueAfter : ℕ → Option Sequences → Option Sequences
-dueAfter zero due = due
-dueAfter (suc number) due = none
+-- a refused call gives its number
+abbrev pub noteAfter : ℕ → Option Sequences → StayNote
+noteAfter zero due = noteOf due
+noteAfter (suc number) due = Refused (suc number)
 
--- what may be answered: no note where none is due, else any position that is a difference
-abbrev pub Allowed : Option Sequences → Option ℕ → Type 0
-Allowed none note = note ≡ none
-Allowed (some s) none = ⊥
-Allowed (some s) (some position) = Differ s position
+-- the answer of the call whose scratch has so many cells
+abbrev pub stayAnswer : List ℕ → List ℕ → ℕ → ℕ → StayNote
+stayAnswer set plan place scratchRoom = noteAfter (stayNumber set plan scratchRoom) (noteDue set plan place)
 
--- Refusal and note are returned. Which position a note gives is left to the program. Scratch is untouched after 1 to 14 and zero after
--- every other call.
-pub record StayNoted (set plan : List ℕ) (place : ℕ) (scratch scratch′ : List ℕ) (refusal : ℕ) (note : Option ℕ) : Type 0 where
-  pub number : refusal ≡ stayNumber set plan (length scratch)
-  pub position : Allowed (dueAfter (stayNumber set plan (length scratch)) (noteDue set plan place)) note
+-- The whole answer: r is returned, scratch becomes scratch′. Scratch is untouched after 1 to 14 and zero after every other call.
+pub record StayNoted (set plan : List ℕ) (place : ℕ) (scratch scratch′ : List ℕ) (r : StayNote) : Type 0 where
+  pub answer : r ≡ stayAnswer set plan place (length scratch)
   pub cleared : scratch′ ≡ scratchAfter (inputRefusal set plan) scratch
-
--- ---- the number and the note of an answer
-
--- the refusal's number; 0 where nothing is turned back
-abbrev pub noteNumber : StayNote → ℕ
-noteNumber (Refused number) = number
-noteNumber None = 0
-noteNumber (Position position) = 0
-
--- the note
-abbrev pub notePosition : StayNote → Option ℕ
-notePosition (Refused number) = none
-notePosition None = none
-notePosition (Position position) = some position

@@ -24,7 +24,7 @@ use reading::tree::tree_end;
 use reporting::subplan::keys_at;
 use reporting::subplan::rows_at;
 
-// The outcome of comparing two sequences: the same, or a position at which they differ or just one has ended.
+// The outcome of comparing two sequences: the same, or the first position at which they differ or just one has ended.
 pub enum Compared {
     Same,
     Differ(usize),

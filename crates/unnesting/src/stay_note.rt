@@ -6,7 +6,7 @@ ghost use Rattle.algebra.specs.Refusals.{need};
 ghost use Rattle.reading.specs.TableSet.{tablesOf};
 ghost use Rattle.reading.specs.Tree.{planOf};
 ghost use Rattle.reading.specs.Check.{inputRefusal};
-ghost use Rattle.unnesting.specs.StayNote.{Allowed, StayNoted, noteDue, noteNumber, notePosition};
+ghost use Rattle.unnesting.specs.StayNote.{StayNoted, noteDue, noteOf};
 use crate::sequence::Compared;
 use crate::sequence::compares;
 use crate::sequence::sequences_at;
@@ -19,7 +19,7 @@ use reading::plan::node_at;
 use reading::tree::nodes_of;
 use reporting::output::clear;
 
-// What the stay note call gives: a refusal's number, no note, or a position at which the sequences differ or just one has ended.
+// What the stay note call gives: a refusal's number, no note, or the first position at which the sequences differ or just one has ended.
 pub enum StayNote {
     Refused(u8),
     None,
@@ -30,7 +30,7 @@ pub enum StayNote {
 fn note_at(set: &[u8], plan: &[u8], place: usize, scratch: &mut [u32]) -> StayNote
     requires { ⌜ inputRefusal (now set) (now plan) ≡ 0 ⌝ }
     requires { ⌜ need (tablesOf (now set)) (planOf (now plan)) ≤ length (now scratch) ⌝ }
-    ensures { λ r. ⌜ (noteNumber r ≡ 0) × Allowed (noteDue (now (set .entry)) (now (plan .entry)) place) (notePosition r) ⌝ }
+    ensures { λ r. ⌜ r ≡ noteOf (noteDue (now (set .entry)) (now (plan .entry)) place) ⌝ }
 {
     if nodes_of(plan) <= place {
         return StayNote::None;
@@ -49,9 +49,9 @@ fn note_at(set: &[u8], plan: &[u8], place: usize, scratch: &mut [u32]) -> StayNo
     }
 }
 
-// The note at a place of a plan: a position exactly where U3, U4 or U6 fails there only because the sequences differ.
+// The note at a place of a plan: the first difference exactly where U3, U4 or U6 fails there only because the sequences differ.
 pub fn stay_note(set: &[u8], plan: &[u8], place: usize, scratch: &mut [u32]) -> StayNote
-    ensures { λ r. ⌜ StayNoted (now (set .entry)) (now (plan .entry)) place (now (scratch .entry)) (now (scratch .exit)) (noteNumber r) (notePosition r) ⌝ }
+    ensures { λ r. ⌜ StayNoted (now (set .entry)) (now (plan .entry)) place (now (scratch .entry)) (now (scratch .exit)) r ⌝ }
 {
     match check_input(set, plan) {
         Checked::Refused(number) => StayNote::Refused(number),

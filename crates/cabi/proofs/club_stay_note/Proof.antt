@@ -9,7 +9,7 @@ use Rattle.cabi.proofs.club_stay_note.Lts as lts
 use Rattle.unnesting.proofs.stay_note.stay_note.Reads as stay-note-reads
 
 few : (c : tie.After-known-told2) → c .before .position .given .0 .0 ≤ 4096
-few c = noted-few _ _ _ _ _ 0 _ (rw (c .before .position .given .1) at (c .before .before .before .before .before .stay-note .ensures))
+few c = noted-few _ _ _ _ _ _ (rw (c .before .position .given .1) at (c .before .before .before .before .before .stay-note .ensures))
 
 -- src/lib.rt:45:11
 stay-note-requires : tie.Need-stay-note-requires
@@ -45,7 +45,7 @@ same-length c = search needs
 
 -- src/lib.rt:41:1
 returns : tie.Need-returns
-returns c = record { refusal = _; note = _; noted = c .before .before .before .before .before .stay-note .ensures; encoded = rw (c .before .number .given .1) }
+returns c = record { answer = _; noted = c .before .before .before .before .before .stay-note .ensures; encoded = rw (c .before .number .given .1) }
 
 -- src/lib.rt:41:1
 same-length-2 : tie.Need-same-length-2
@@ -53,7 +53,7 @@ same-length-2 c = search needs
 
 -- src/lib.rt:41:1
 returns-2 : tie.Need-returns-2
-returns-2 c = record { refusal = _; note = _; noted = c .before .before .before .before .stay-note .ensures; encoded = rw (c .enum-told .given .1) }
+returns-2 c = record { answer = _; noted = c .before .before .before .before .stay-note .ensures; encoded = rw (c .enum-told .given .1) }
 
 -- src/lib.rt:41:1
 same-length-3 : tie.Need-same-length-3
@@ -61,7 +61,7 @@ same-length-3 c = search needs
 
 -- src/lib.rt:41:1
 returns-3 : tie.Need-returns-3
-returns-3 c = record { refusal = _; note = _; noted = c .before .before .before .before .before .stay-note .ensures; encoded = rw (c .before .position .given .1) }
+returns-3 c = record { answer = _; noted = c .before .before .before .before .before .stay-note .ensures; encoded = rw (c .before .position .given .1) }
 
 pub club-stay-note-spec : {M : Type 1} → statement M
 club-stay-note-spec =

@@ -20,7 +20,7 @@ loop-holds c = (omega arith, omega arith, refl)
 
 -- src/sequence.rt:42:13
 returns : tie.Need-returns Inv-loop μ-loop
-returns c = differ-first (c .before .before .before .args .first .now) (c .before .before .before .args .second .now) (c .before .before .loop .i) (c .before .loop-test .taken) (c .if1 .taken)
+returns c = differ-first (c .before .before .before .args .first .now) (c .before .before .before .args .second .now) (c .before .before .loop .i) (c .before .loop-test .taken) (c .if1 .taken) (c .before .before .loop .inv .2)
 
 -- src/sequence.rt:44:12
 mul-if2 : tie.Need-mul-if2 Inv-loop μ-loop
@@ -40,7 +40,7 @@ shared-slice-read-if2-2 c = omega arith
 
 -- src/sequence.rt:45:13
 returns-2 : tie.Need-returns-2 Inv-loop μ-loop
-returns-2 c = differ-here (c .before .before .before .before .before .before .args .first .now) (c .before .before .before .before .before .before .args .second .now) (c .before .before .before .before .before .loop .i) (c .before .before .before .before .loop-test .taken) (c .before .before .before .if1 .left) (c .if2 .taken)
+returns-2 c = differ-here (c .before .before .before .before .before .before .args .first .now) (c .before .before .before .before .before .before .args .second .now) (c .before .before .before .before .before .loop .i) (c .before .before .before .before .loop-test .taken) (c .before .before .before .if1 .left) (c .if2 .taken) (c .before .before .before .before .before .loop .inv .2)
 
 -- src/sequence.rt:47:9
 add-i : tie.Need-add-i Inv-loop μ-loop
@@ -56,7 +56,7 @@ loop-again c = (omega (arith, c .before .before .before .before .loop-test .take
 
 -- src/sequence.rt:50:9
 returns-3 : tie.Need-returns-3 Inv-loop μ-loop
-returns-3 c = differ-second (c .before .before .before .args .first .now) (c .before .before .before .args .second .now) (c .before .before .loop .i) (c .before .loop-test .left) (c .if3 .taken)
+returns-3 c = differ-second (c .before .before .before .args .first .now) (c .before .before .before .args .second .now) (c .before .before .loop .i) (c .before .loop-test .left) (c .if3 .taken) (c .before .before .loop .inv .2)
 
 -- src/sequence.rt:36:1
 returns-4 : tie.Need-returns-4 Inv-loop μ-loop

@@ -48,7 +48,7 @@ nodes-of-requires c κs = search needs
 returns : tie.Need-returns
 returns c =
     let s = c .before .before .before .before .before in
-    (refl, note-outside (s .args .set .now) (s .args .plan .now) (s .pre .0) (s .args .place) (omega (arith, c .if1 .taken, c .before .nodes-of .ensures .0)))
+    note-outside (s .args .set .now) (s .args .plan .now) (s .pre .0) (s .args .place) (omega (arith, c .if1 .taken, c .before .nodes-of .ensures .0))
 
 -- src/stay_note.rt:40:9
 node-at-requires : tie.Need-node-at-requires
@@ -66,7 +66,7 @@ compares-requires c κs = search needs
 returns-2 : tie.Need-returns-2
 returns-2 c =
     let s = c .before .before .before .before .before .before .before .before .before in
-    (refl, note-other (s .args .set .now) (s .args .plan .now) (s .pre .0) (s .args .place) (inside (c .before .before .before .before)) (sym (rule (c .before)) ∙ not-true _ (c .if2 .taken)))
+    note-other (s .args .set .now) (s .args .plan .now) (s .pre .0) (s .args .place) (inside (c .before .before .before .before)) (sym (rule (c .before)) ∙ not-true _ (c .if2 .taken))
 
 -- src/stay_note.rt:45:47
 slice-aggregate-possible-at : tie.Need-slice-aggregate-possible-at
@@ -106,7 +106,7 @@ enum-known-position c = search needs
 returns-3 : tie.Need-returns-3
 returns-3 c =
     let s = c .before .before .before .before .before .before .before .before .before .before .before .before .before .before in
-    (refl, note-impossible (s .args .set .now) (s .args .plan .now) (s .pre .0) (s .args .place) (inside (c .before .before .before .before .before .before .before .before .before)) (tells-none _ _ _ _ (c .before .before .before .possible-at .ensures) (c .enum-told .given .1)))
+    note-impossible (s .args .set .now) (s .args .plan .now) (s .pre .0) (s .args .place) (inside (c .before .before .before .before .before .before .before .before .before)) (tells-none _ _ _ _ (c .before .before .before .possible-at .ensures) (c .enum-told .given .1))
 
 -- src/stay_note.rt:32:1
 same-length : tie.Need-same-length
@@ -116,7 +116,7 @@ same-length c = search needs
 returns-4 : tie.Need-returns-4
 returns-4 c =
     let s = c .before .before .before .before .before .before .before .before .before .before .before .before .before .before .before .before .before .before .before .before in
-    (refl, note-same (s .args .set .now) (s .args .plan .now) (s .pre .0) (s .args .place) (inside (c .before .before .before .before .before .before .before .before .before .before .before .before .before .before .before)) (compared (c .before .before .before .before .before .before .before .before .before .before .before)) _ (c .before .before .before .before .sequences-at .ensures) (c .enum-told3 .given .1))
+    note-same (s .args .set .now) (s .args .plan .now) (s .pre .0) (s .args .place) (inside (c .before .before .before .before .before .before .before .before .before .before .before .before .before .before .before)) (compared (c .before .before .before .before .before .before .before .before .before .before .before)) _ (c .before .before .before .before .sequences-at .ensures) (c .enum-told3 .given .1)
 
 -- src/stay_note.rt:32:1
 same-length-2 : tie.Need-same-length-2
@@ -126,7 +126,7 @@ same-length-2 c = search needs
 returns-5 : tie.Need-returns-5
 returns-5 c =
     let s = c .before .before .before .before .before .before .before .before .before .before .before .before .before .before .before .before .before .before .before .before .before in
-    (refl, note-differ (s .args .set .now) (s .args .plan .now) (s .pre .0) (s .args .place) (inside (c .before .before .before .before .before .before .before .before .before .before .before .before .before .before .before .before)) (compared (c .before .before .before .before .before .before .before .before .before .before .before .before)) _ _ _ (left (c .before .before .before .before .before .before .before)) _ _ (c .before .before .before .before .before .sequences-at .ensures) (c .before .position .given .1))
+    note-differ (s .args .set .now) (s .args .plan .now) (s .pre .0) (s .args .place) (inside (c .before .before .before .before .before .before .before .before .before .before .before .before .before .before .before .before)) (compared (c .before .before .before .before .before .before .before .before .before .before .before .before)) _ _ _ (left (c .before .before .before .before .before .before .before)) _ _ (c .before .before .before .before .before .sequences-at .ensures) (c .before .position .given .1)
 
 pub note-at-spec : {M : Type 1} → statement M
 note-at-spec =

@@ -45,7 +45,7 @@ returns : tie.Need-returns
 returns c =
     let a = c .before .before .before .before .before .before .before .before .before .before .before .before .args in
     let i = input (c .before .before .before .before .before .before) in
-    note-short (a .set .now) (a .plan .now) (a .place) (a .scratch .now) _ _ _ (i .0) (c .before .before .clear .ensures) (omega (arith, i .1, c .before .before .before .before .if1 .taken)) refl refl
+    note-short (a .set .now) (a .plan .now) (a .place) (a .scratch .now) _ _ (i .0) (c .before .before .clear .ensures) (omega (arith, i .1, c .before .before .before .before .if1 .taken)) refl
 
 -- src/stay_note.rt:72:17
 note-at-requires : tie.Need-note-at-requires
@@ -61,7 +61,7 @@ clear-requires-2 c κs = search needs
 returns-2 : tie.Need-returns-2
 returns-2 c =
     let a = c .before .before .before .before .before .before .before .args in
-    note-turned-back (a .set .now) (a .plan .now) (a .place) (a .scratch .now) (a .scratch .now) _ _ _ (sym (c .before .before .before .check-input .ensures) ∙ c .before .number .given .1) refl refl refl
+    note-turned-back (a .set .now) (a .plan .now) (a .place) (a .scratch .now) (a .scratch .now) _ _ (sym (c .before .before .before .check-input .ensures) ∙ c .before .number .given .1) refl refl
 
 -- src/stay_note.rt:58:1
 same-length-2 : tie.Need-same-length-2
@@ -73,7 +73,7 @@ returns-3 c =
     let a = c .before .before .before .before .before .before .before .before .before .before .before .before .before .before .before .before .args in
     let i = input (c .before .before .before .before .before .before .before .before .before .before) in
     let n = c .before .before .before .before .before .before .note-at in
-    note-given (a .set .now) (a .plan .now) (a .place) (a .scratch .now) _ _ _ (i .0) (c .before .before .clear2 .ensures ∙ ap (λ (k : ℕ). replicate k 0) (n .kept .1 .1 .1 .0)) (omega (arith, i .1, c .before .before .before .before .before .before .before .before .if1 .left)) (n .ensures .0) (n .ensures .1)
+    note-given (a .set .now) (a .plan .now) (a .place) (a .scratch .now) _ _ (i .0) (c .before .before .clear2 .ensures ∙ ap (λ (k : ℕ). replicate k 0) (n .kept .1 .1 .1 .0)) (omega (arith, i .1, c .before .before .before .before .before .before .before .before .if1 .left)) (n .ensures)
 
 pub stay-note-spec : {M : Type 1} → statement M
 stay-note-spec =
