@@ -2,6 +2,7 @@
 use Prim.Native.Nat.{ℕ, zero, suc, _≤_, _<_}
 use mathlib.Core.Bool.{Bool, true, false, cond, _&&_, true≢false}
 use mathlib.Core.Path.{_≡_, refl, sym, ap, _∙_, subst}
+use mathlib.Core.Logic.{_⊎_, inl, inr}
 use mathlib.Core.List.{List, [], _∷_}
 use mathlib.Core.Option.{Option, none, some, Option·some-ne-none, Option·none-ne-some, Option·some-injective}
 use native.Mathlib.Omega.{arith}
@@ -14,7 +15,7 @@ use Rattle.algebra.specs.Refusals.{passes}
 use Rattle.algebra.specs.Rules.{Top, top, Only, only, another, onlyOf, when, outside, bare, u3Conditions, u3, u6Conditions, u6, u7, ruleOf, unnest, fresh}
 use Rattle.algebra.specs.Steps.{accepted}
 use Rattle.algebra.specs.StayNotes.{Sequences, nothing, sequencesOf, comparing, unsequenced, stays, noted, noteAt, firstDifference, SmallestDifference}
-use Rattle.algebra.proofs.Lists.{every-true, same-true, same-self}
+use Rattle.algebra.proofs.Lists.{every-true, same-true, sameRows-true, same-self}
 use Rattle.algebra.proofs.Change.{OnSome, on-when, look-root, changed}
 
 -- ---- the first difference
@@ -41,23 +42,6 @@ smallest-first (x ∷ xs) (y ∷ ys) h =
       }
     ]) refl h
 
--- no other position is the smallest
-pub first-only : (xs ys : List Row) (i : ℕ) → SmallestDifference xs ys i → i ≡ firstDifference xs ys
-first-only [] [] i s = absurd (s .differ refl)
-first-only [] (y ∷ ys) zero s = refl
-first-only [] (y ∷ ys) (suc i) s = absurd (Option·none-ne-some _ (s .alikeBefore 0 (omega arith)))
-first-only (x ∷ xs) [] zero s = refl
-first-only (x ∷ xs) [] (suc i) s = absurd (Option·some-ne-none _ (s .alikeBefore 0 (omega arith)))
-first-only (x ∷ xs) (y ∷ ys) zero s =
-    (elim (same x y) as (λ b. same x y ≡ b → 0 ≡ length (cond b (x ∷ commonBeginning xs ys) [])) [
-      | true ↦ λ e. absurd (s .differ (ap some (same-true x y e)))
-      | false ↦ λ e. refl
-    ]) refl
-first-only (x ∷ xs) (y ∷ ys) (suc i) s =
-    let e : x ≡ y = Option·some-injective x y (s .alikeBefore 0 (omega arith)) in
-    let k : same x y ≡ true = subst (λ v. same x v ≡ true) e (same-self x) in
-    rw k (ap suc (first-only xs ys i (record { differ = s .differ; alikeBefore = λ j l. s .alikeBefore (suc j) (omega arith) })))
-
 -- it lies within the first sequence, or at its end
 pub first-within : (xs ys : List Row) → firstDifference xs ys ≤ length xs
 first-within [] ys = omega arith
@@ -67,6 +51,34 @@ first-within (x ∷ xs) (y ∷ ys) =
       | true ↦ let h = first-within xs ys in omega arith
       | false ↦ omega arith
     ]
+
+-- all of a sequence is common with itself
+common-self : (xs : List Row) → firstDifference xs xs ≡ length xs
+common-self [] = refl
+common-self (x ∷ xs) = rw (same-self x) (ap suc (common-self xs))
+
+-- sequences are the same where the second is no longer than the first and all of the first is common
+pub common-all : (xs ys : List Row) → length ys ≤ length xs → length xs ≤ firstDifference xs ys → sameRows xs ys ≡ true
+common-all [] [] l h = refl
+common-all [] (y ∷ ys) l h = absurd (omega arith)
+common-all (x ∷ xs) [] l h = absurd (omega arith)
+common-all (x ∷ xs) (y ∷ ys) l h =
+    (elim (same x y) as (λ b. suc (length xs) ≤ length (cond b (x ∷ commonBeginning xs ys) []) → b && sameRows xs ys ≡ true) [
+      | true ↦ λ k. common-all xs ys (omega arith) (omega arith)
+      | false ↦ λ k. absurd (omega arith)
+    ]) h
+
+-- and in no other case
+pub common-part : (xs ys : List Row) → (length xs < length ys) ⊎ (firstDifference xs ys < length xs) → sameRows xs ys ≡ false
+common-part xs ys h =
+    (elim (sameRows xs ys) as (λ b. sameRows xs ys ≡ b → b ≡ false) [
+      | true ↦ λ e. absurd (contrary (sameRows-true xs ys e) h)
+      | false ↦ λ e. refl
+    ]) refl
+  where
+    contrary : xs ≡ ys → (length xs < length ys) ⊎ (firstDifference xs ys < length xs) → ⊥
+    contrary e (inl l) = omega (arith, ap length e)
+    contrary e (inr l) = omega (arith, subst (λ zs. firstDifference xs zs ≡ length xs) e (common-self xs))
 
 -- ---- a note has one
 

@@ -9,7 +9,7 @@ use native.Mathlib.Omega.{arith}
 use native.Mathlib.Decide.{ℕ-discrete}
 use native.Mathlib.Numerals.{add-one}
 use lib.Dec.{eqb}
-use lib.ListN.{length, getD, getElem?, take, set as put, replicate, length-append}
+use lib.ListN.{length, getD, take, drop, set as put, replicate, length-append, length-map}
 use lib.Seq.{take-suc, take-all, take-at, take-suc-set}
 use borrow.Author.Tests.{eq-eqb, ne-eqb, le-ltb}
 use Rattle.algebra.specs.Lists.{isEmpty, flatMap, sameRows}
@@ -17,9 +17,8 @@ use Rattle.algebra.specs.Plans.{Row, Tables, isPlain, select, distinct, Binary,
 use Rattle.algebra.specs.Places.{Operator, binaryNode}
 use Rattle.algebra.specs.Refusals.{width, need}
 use Rattle.algebra.specs.Rules.{outside, Top, top, bare, Only, only, another, onlyOf, u3, u6, u7, ruleOf}
-use Rattle.algebra.specs.StayNotes.{sequencesOf, comparing, SmallestDifference}
-use Rattle.algebra.proofs.Lists.{sameRows-true, sameRows-self}
-use Rattle.algebra.proofs.StayNotes.{first-only}
+use Rattle.algebra.specs.StayNotes.{sequencesOf, comparing, firstDifference}
+use Rattle.algebra.proofs.StayNotes.{common-all, common-part}
 use Rattle.algebra.proofs.Refusals.{low-rows}
 use Rattle.reading.specs.TableSet.{tablesOf}
 use Rattle.reading.specs.Plan.{nodeAt, nodesOf}
@@ -45,59 +44,42 @@ use Rattle.unnesting.proofs.Widths.{Wide, nothing, more, eval-wide, tab
 
 -- ---- sequences of cells, compared
 
-ones-at : (xs : List ℕ) (p : ℕ) → p < length xs → getElem? (rowsOfOne xs) p ≡ some (getD xs p 0 ∷ [])
-ones-at [] p h = absurd (omega arith)
-ones-at (x ∷ xs) zero h = refl
-ones-at (x ∷ xs) (suc p) h = ones-at xs p (omega arith)
+-- their common beginning ends where one of them ends or they differ
+pub common-end : (xs ys : List ℕ) (i : ℕ) → i ≤ length xs → i ≤ length ys → take i xs ≡ take i ys → (length xs ≤ i) ⊎ (length ys ≤ i) ⊎ (getD xs i 0 ≡ getD ys i 0 → ⊥)
+    → i ≡ firstDifference (rowsOfOne xs) (rowsOfOne ys)
+common-end [] ys zero h g t e = refl
+common-end (x ∷ xs) [] zero h g t e = refl
+common-end (x ∷ xs) (y ∷ ys) zero h g t (inl e) = absurd (omega arith)
+common-end (x ∷ xs) (y ∷ ys) zero h g t (inr (inl e)) = absurd (omega arith)
+common-end (x ∷ xs) (y ∷ ys) zero h g t (inr (inr e)) = rw (ne-eqb x y e)
+common-end [] ys (suc i) h g t e = absurd (omega arith)
+common-end (x ∷ xs) [] (suc i) h g t e = absurd (omega arith)
+common-end (x ∷ xs) (y ∷ ys) (suc i) h g t e =
+    let k : i ≡ firstDifference (rowsOfOne xs) (rowsOfOne ys) = common-end xs ys i (omega arith) (omega arith) (ap (drop 1) t) (behind e) in
+    rw (eq-eqb x y (ap (λ (zs : List ℕ). getD zs 0 0) t)) (ap suc k)
+  where
+    behind : (length (x ∷ xs) ≤ suc i) ⊎ (length (y ∷ ys) ≤ suc i) ⊎ (getD (x ∷ xs) (suc i) 0 ≡ getD (y ∷ ys) (suc i) 0 → ⊥)
+        → (length xs ≤ i) ⊎ (length ys ≤ i) ⊎ (getD xs i 0 ≡ getD ys i 0 → ⊥)
+    behind (inl l) = inl (omega arith)
+    behind (inr (inl l)) = inr (inl (omega arith))
+    behind (inr (inr l)) = inr (inr l)
 
-ones-past : (xs : List ℕ) (p : ℕ) → length xs ≤ p → getElem? (rowsOfOne xs) p ≡ none
-ones-past [] p h = refl
-ones-past (x ∷ xs) zero h = absurd (omega arith)
-ones-past (x ∷ xs) (suc p) h = ones-past xs p (omega arith)
+-- a cell more of it
+pub common-next : (xs ys : List ℕ) (i : ℕ) → i < length xs → i < length ys → getD xs i 0 ≡ getD ys i 0 → take i xs ≡ take i ys → take (i + 1) xs ≡ take (i + 1) ys
+common-next xs ys i h g e t = rw (add-one i) (take-suc xs i 0 h ∙ (ap₂ (λ (a : List ℕ) (c : ℕ). a ++ (c ∷ [])) t e ∙ sym (take-suc ys i 0 g)))
 
--- what stands among the first i stands there in front of them
-ones-front : (xs : List ℕ) (i j : ℕ) → j < i → getElem? (rowsOfOne (take i xs)) j ≡ getElem? (rowsOfOne xs) j
-ones-front xs zero j h = absurd (omega arith)
-ones-front [] (suc i) j h = refl
-ones-front (x ∷ xs) (suc i) zero h = refl
-ones-front (x ∷ xs) (suc i) (suc j) h = ones-front xs i j (omega arith)
+-- the outcome by the length of it
+module _ (xs ys : List ℕ) (common : ℕ) (e : common ≡ firstDifference (rowsOfOne xs) (rowsOfOne ys)) where
+  pub differ-longer : length xs < length ys → ComparedAs (rowsOfOne xs) (rowsOfOne ys) (Differ common)
+  differ-longer h = (common-part (rowsOfOne xs) (rowsOfOne ys) (inl (omega (arith, length-map xs (λ c. c ∷ []), length-map ys (λ c. c ∷ [])))), e)
 
--- a position at which they differ shows that they are not the same
-differ-by : (xs ys : List Row) (p : ℕ) → SmallestDifference xs ys p → ComparedAs xs ys (Differ p)
-differ-by xs ys p s = (
-  (elim (sameRows xs ys) as (λ b. sameRows xs ys ≡ b → b ≡ false) [
-    | true ↦ λ e. absurd (s .differ (ap (λ (zs : List Row). getElem? zs p) (sameRows-true xs ys e)))
-    | false ↦ λ e. refl
-  ]) refl,
-  first-only xs ys p s,
-)
+  pub differ-inside : common < length xs → ComparedAs (rowsOfOne xs) (rowsOfOne ys) (Differ common)
+  differ-inside h = (common-part (rowsOfOne xs) (rowsOfOne ys) (inr (omega (arith, e, length-map xs (λ c. c ∷ [])))), e)
 
-module _ (xs ys : List ℕ) (i : ℕ) where
-  -- cells that are the same up to a position at which they differ
-  differ-cells : take i xs ≡ take i ys → getElem? (rowsOfOne xs) i ≢ getElem? (rowsOfOne ys) i → ComparedAs (rowsOfOne xs) (rowsOfOne ys) (Differ i)
-  differ-cells t h =
-      differ-by (rowsOfOne xs) (rowsOfOne ys) i (record {
-        differ = h;
-        alikeBefore = λ j l. sym (ones-front xs i j l) ∙ (ap (λ (zs : List ℕ). getElem? (rowsOfOne zs) j) t ∙ ones-front ys i j l);
-      })
-
-  pub differ-here : i < length xs → i < length ys → (getD xs i 0 ≡ getD ys i 0 → ⊥) → take i xs ≡ take i ys → ComparedAs (rowsOfOne xs) (rowsOfOne ys) (Differ i)
-  differ-here h g l t =
-      differ-cells t (λ e. l (ap (λ (r : Row). getD r 0 0) (Option·some-injective _ _ (sym (ones-at xs i h) ∙ (e ∙ ones-at ys i g)))))
-
-  pub differ-first : i < length xs → length ys ≤ i → take i xs ≡ take i ys → ComparedAs (rowsOfOne xs) (rowsOfOne ys) (Differ i)
-  differ-first h g t = differ-cells t (λ e. Option·some-ne-none _ (sym (ones-at xs i h) ∙ (e ∙ ones-past ys i g)))
-
-  pub differ-second : length xs ≤ i → i < length ys → take i xs ≡ take i ys → ComparedAs (rowsOfOne xs) (rowsOfOne ys) (Differ i)
-  differ-second h g t = differ-cells t (λ e. Option·none-ne-some _ (sym (ones-past xs i h) ∙ (e ∙ ones-at ys i g)))
-
-  pub same-next : i < length xs → i < length ys → getD xs i 0 ≡ getD ys i 0 → take i xs ≡ take i ys → take (i + 1) xs ≡ take (i + 1) ys
-  same-next h g e t = rw (add-one i) (take-suc xs i 0 h ∙ (ap₂ (λ (a : List ℕ) (c : ℕ). a ++ (c ∷ [])) t e ∙ sym (take-suc ys i 0 g)))
-
-  pub same-all : length xs ≤ i → length ys ≤ i → take i xs ≡ take i ys → ComparedAs (rowsOfOne xs) (rowsOfOne ys) Same
-  same-all h g t =
-      let e : xs ≡ ys = sym (take-all i xs h) ∙ (t ∙ take-all i ys g) in
-      subst (λ (zs : List ℕ). sameRows (rowsOfOne xs) (rowsOfOne zs) ≡ true) e (sameRows-self (rowsOfOne xs))
+  pub same-all : length ys ≤ length xs → length xs ≤ common → ComparedAs (rowsOfOne xs) (rowsOfOne ys) Same
+  same-all l h =
+      let n = length-map xs (λ c. c ∷ []) in
+      common-all (rowsOfOne xs) (rowsOfOne ys) (omega (arith, n, length-map ys (λ c. c ∷ []))) (omega (arith, e, n))
 
 -- a cell more is copied
 pub copied-next : (copy cells : List ℕ) (k : ℕ) → k < length copy → k < length cells → take k copy ≡ take k cells → take (k + 1) (put copy k (getD cells k 0)) ≡ take (k + 1) cells

@@ -15,7 +15,8 @@ use Rattle.reading.specs.Plan.{planMark}
 use Rattle.reading.specs.Check.{inputRefusal}
 use Rattle.reporting.specs.Report.{reportRows, rowCount, columnCount, reportNumber}
 use Rattle.unnesting.specs.Unnest.{unnestPlan, writtenSteps, writtenPlan, unnestNumber}
-use Rattle.unnesting.specs.StayNote.{noteDue}
+use Rattle.unnesting.specs.StayNote.{noteDue, stayAnswer}
+use Rattle.unnesting.specs.declared.stay_note.StayNote.the-variants.{Position}
 use Rattle.unnesting.specs.Demand3.{bytesLeft}
 
 -- the cell of a number
@@ -104,9 +105,10 @@ pub record Examples : Type 0 where
       × (reportNumber clubSet (writtenPlan clubSet clubPlan) 2 8192 ≡ 0)
       × ((rowCount clubSet (writtenPlan clubSet clubPlan) ≡ 2) × (columnCount clubSet (writtenPlan clubSet clubPlan) ≡ 1))
       × (reportRows clubSet (writtenPlan clubSet clubPlan) ≡ single (7 ∷ 4 ∷ []))
-  -- M9: with (9, blank) moved first in table 1, U4 doesn't fit. A stay note is due there, of 7, 9, 4 and 9, 7, 4; none is due after U2
-  -- alone, where the Anti still has its test.
+  -- M9: with (9, blank) moved first in table 1, U4 doesn't fit. A stay note is due there, of 7, 9, 4 and 9, 7, 4, and gives position 0;
+  -- none is due after U2 alone, where the Anti still has its test.
   pub m9 : (writtenSteps movedSet clubPlan ≡ 2 ∷ 0 ∷ 7 ∷ 0 ∷ [])
       × (attempt (tablesOf movedSet) (record { number = 4; place = 0 }) (unnestPlan movedSet clubPlan) ≡ none)
       × (noteDue movedSet (writtenPlan movedSet clubPlan) 0 ≡ some (record { first = single (7 ∷ 9 ∷ 4 ∷ []); second = single (9 ∷ 7 ∷ 4 ∷ []) }))
+      × (stayAnswer movedSet (writtenPlan movedSet clubPlan) 0 8192 ≡ Position 0)
       × (noteDue movedSet (bytesLeft movedSet clubPlan (record { number = 2; place = 0 } ∷ [])) 0 ≡ none)

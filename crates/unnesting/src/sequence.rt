@@ -10,7 +10,7 @@ ghost use Rattle.algebra.specs.Lists.{isEmpty};
 ghost use Rattle.algebra.specs.Plans.{distinct, eval, one};
 ghost use Rattle.algebra.specs.Refusals.{need, width};
 ghost use Rattle.algebra.specs.Rules.{bare, fresh, outside, ruleOf, top};
-ghost use Rattle.algebra.specs.StayNotes.{comparing, sequencesOf};
+ghost use Rattle.algebra.specs.StayNotes.{comparing, firstDifference, sequencesOf};
 ghost use Rattle.reading.specs.TableSet.{tablesOf};
 ghost use Rattle.reading.specs.Plan.{nodeAt, nodesOf};
 ghost use Rattle.reading.specs.Tree.{planOf, planAt, wholeTree};
@@ -42,24 +42,36 @@ pub(crate) fn compares(rule: u8) -> bool
 
 // ---- two sequences
 
-// Compares two sequences of cells.
-fn first_difference(first: &[u32], second: &[u32]) -> Compared
-    ensures { λ r. ⌜ ComparedAs (rowsOfOne (now (first .entry))) (rowsOfOne (now (second .entry))) r ⌝ }
+// The length of the common beginning of two sequences of cells.
+fn common_beginning(first: &[u32], second: &[u32]) -> usize
+    ensures { λ r. ⌜ r ≡ firstDifference (rowsOfOne (now (first .entry))) (rowsOfOne (now (second .entry))) ⌝ }
 {
     let mut i = 0;
     while i < first.len() {
         if second.len() <= i {
-            return Compared::Differ(i);
+            return i;
         }
         if first[i] != second[i] {
-            return Compared::Differ(i);
+            return i;
         }
         i += 1;
     }
-    if i < second.len() {
-        return Compared::Differ(i);
+    i
+}
+
+// Compares two sequences of cells. They are the same where the second is no longer than the first and all of the first is common.
+fn first_difference(first: &[u32], second: &[u32]) -> Compared
+    ensures { λ r. ⌜ ComparedAs (rowsOfOne (now (first .entry))) (rowsOfOne (now (second .entry))) r ⌝ }
+{
+    let common = common_beginning(first, second);
+    if first.len() < second.len() {
+        return Compared::Differ(common);
     }
-    Compared::Same
+    if common < first.len() {
+        Compared::Differ(common)
+    } else {
+        Compared::Same
+    }
 }
 
 // A copy of the first n cells.
