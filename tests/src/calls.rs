@@ -7,7 +7,7 @@ use crate::check::{columns, need, read_plan};
 use crate::evaluate::rows;
 use crate::nodes::write_plan;
 use crate::plan::Plan;
-use crate::rules::{first_fit, stay_positions, try_step};
+use crate::rules::{first_fit, stay_position, try_step};
 use crate::tables::{read_set, Table};
 
 /// Enough room for any call.
@@ -106,14 +106,14 @@ pub fn unnest(
     Ok(Unnested { steps, plan })
 }
 
-/// The stay note call: refusals 1 to 14 and 16, or all positions that a note for this place may
-/// give (`None`: no note is due).
-pub fn stay_note(set: &[u8], plan: &[u8], place: usize, scratch_cells: usize) -> Result<Option<Vec<usize>>, u8> {
+/// The stay note call: refusals 1 to 14 and 16, or the position that the note for this place gives
+/// (`None`: no note is due).
+pub fn stay_note(set: &[u8], plan: &[u8], place: usize, scratch_cells: usize) -> Result<Option<usize>, u8> {
     let (tables, tree) = read(set, plan)?;
     if (scratch_cells as u64) < need(&tree, &tables) {
         return Err(16);
     }
-    Ok(stay_positions(&tree, place, &tables))
+    Ok(stay_position(&tree, place, &tables))
 }
 
 /// The plan left after a list of steps (rule, place) is tried, each on the plan the one before left.
@@ -141,14 +141,12 @@ pub fn unnest_word(answer: &Result<Unnested, u8>) -> u64 {
     }
 }
 
-/// Whether C may get this from the stay note call: a note may give any of the valid positions.
-pub fn stay_note_word_is_right(answer: &Result<Option<Vec<usize>>, u8>, word: u64) -> bool {
+/// What C gets from the stay note call.
+pub fn stay_note_word(answer: &Result<Option<usize>, u8>) -> u64 {
     match answer {
-        Ok(Some(positions)) => {
-            word & 0xffff == 1 << 8 && positions.iter().any(|&position| position as u64 == word >> 16)
-        }
-        Ok(None) => word == 0,
-        Err(number) => word == u64::from(*number),
+        Ok(Some(position)) => (1 << 8) + ((*position as u64) << 16),
+        Ok(None) => 0,
+        Err(number) => u64::from(*number),
     }
 }
 

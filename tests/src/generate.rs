@@ -546,19 +546,41 @@ pub fn bound_grows(random: &mut Random) -> Input {
     let height = random.between(62, 66);
     let long = one_column(&run_through(random, &keys, height));
     let other = one_column(&vec![1; random.between(63, 65)]);
+    let (left, right) = (Box::new(of_two_columns(random)), Box::new(Plan::Scan { table: 2, first: 9 }));
+    let plan = if random.chance(50) { Plan::Cross { left, right } } else { Plan::Each { left, inner: right } };
+    Input { tables: vec![short, long, other], plan }
+}
+
+/// A Semi, Anti or Pair of a Distinct of table 0 with table 1, each of one column, that is right for its rule if the sequences
+/// are equal.
+fn of_two_columns(random: &mut Random) -> Plan {
     let left = Box::new(Plan::Distinct { list: vec![0], child: Box::new(Plan::Scan { table: 0, first: 0 }) });
     let right = Box::new(Plan::Scan { table: 1, first: 1 });
-    let narrow = match random.below(3) {
+    match random.below(3) {
         0 => Plan::Semi { left_key: 0, right_key: 1, test: ALWAYS, left, right },
         1 => Plan::Anti { left_key: 0, right_key: 1, test: ALWAYS, left, right },
         _ => {
             let keys = Keys { left: 0, comparison: random.pick(&COMPARISONS), right: 1 };
             Plan::Pair { aggregate: Aggregate::Sum(1), new: 2, keys, test: ALWAYS, left, right }
         }
+    }
+}
+
+/// A Semi, Anti or Pair whose sequences have a beginning in common, now and then a long one. After it each has up to three
+/// cells of its own.
+pub fn common_beginning(random: &mut Random) -> Input {
+    let beginning = match random.below(20) {
+        0 => (0..random.between(100, 990) as i32).collect(),
+        _ => key_sequence(random),
     };
-    let (left, right) = (Box::new(narrow), Box::new(Plan::Scan { table: 2, first: 9 }));
-    let plan = if random.chance(50) { Plan::Cross { left, right } } else { Plan::Each { left, inner: right } };
-    Input { tables: vec![short, long, other], plan }
+    let mut column = || {
+        let height = if beginning.is_empty() { 0 } else { beginning.len() + random.below(4) };
+        let mut cells = run_through(random, &beginning, height);
+        cells.extend((0..random.below(4)).map(|_| code(random)));
+        one_column(&cells)
+    };
+    let tables = vec![column(), column()];
+    Input { tables, plan: of_two_columns(random) }
 }
 
 /// A list of steps to try on a plan: some fit where they stand, some do not.

@@ -7,10 +7,11 @@ use crate::build::*;
 use crate::calls;
 use crate::cases::{damaged_once, fault_case};
 use crate::damage::{faults, Fault};
-use crate::generate::{accepted, code, steps, Input};
+use crate::generate::{accepted, code, common_beginning, steps, Input};
 use crate::plan::Comparison::Equal;
 use crate::plan::{Aggregate, Plan, COMPARISONS};
 use crate::random::Random;
+use crate::rules::{sequences, stay_position};
 use crate::tables::Table;
 
 /// How often each answer and each rule was met.
@@ -25,8 +26,10 @@ pub struct Counts {
     pub rules: [usize; 9],
     /// Tried steps that fitted, by rule, and those that did not, at 0.
     pub tried: [usize; 9],
-    /// Stay notes given.
-    pub notes: usize,
+    /// Stay notes given: those with position 0, and those with a later one.
+    pub notes: [usize; 2],
+    /// Those of them where just one sequence has ended at the position.
+    pub ended: usize,
 }
 
 impl Counts {
@@ -43,7 +46,8 @@ impl Counts {
             + &by_number("report", &self.reports)
             + &by_number("unnest", &self.unnestings)
             + &by_number("stay note", &self.stay_notes)
-            + &format!("notes given {}\n", self.notes)
+            + &format!("notes with position 0 {}, with a later one {}, ", self.notes[0], self.notes[1])
+            + &format!("where just one sequence has ended {}\n", self.ended)
             + &format!("steps of the unnesting call{}\n", by_rule(&self.rules))
             + &format!("tried steps that fitted{}, that did not {}\n", by_rule(&self.tried), self.tried[0])
     }
@@ -63,7 +67,8 @@ pub fn hold_seeds(seed: u64, count: u64, counts: &mut Counts) -> Result<(), Stri
 /// A random input: accepted; with one fault or two; or with bytes changed, cut off or put on anywhere.
 fn drawn(random: &mut Random, faults: &[Fault]) -> (Vec<u8>, Vec<u8>) {
     match random.below(100) {
-        0..=58 => bytes_of(&accepted(random)),
+        0..=56 => bytes_of(&accepted(random)),
+        57..=58 => bytes_of(&common_beginning(random)),
         59 => bytes_of(&large(random)),
         60..=73 => {
             let fault = random.below(faults.len());
@@ -255,10 +260,11 @@ fn hold_unnest(random: &mut Random, set: &[u8], plan: &[u8], counts: &mut Counts
 
 /// The stay note call at a few places: one where a note is due if there is one, anywhere, and past the last node.
 fn hold_stay_notes(random: &mut Random, set: &[u8], plan: &[u8], counts: &mut Counts) -> Result<(), String> {
-    let (size, due, need) = match calls::read(set, plan) {
+    let read = calls::read(set, plan);
+    let (size, due, need) = match &read {
         Ok((tables, tree)) => {
-            let due = |&place: &usize| crate::rules::stay_positions(&tree, place, &tables).is_some();
-            (tree.size(), (0..tree.size()).find(due), crate::check::need(&tree, &tables) as usize)
+            let due = |&place: &usize| stay_position(tree, place, tables).is_some();
+            (tree.size(), (0..tree.size()).find(due), crate::check::need(tree, tables) as usize)
         }
         Err(_) => (random.between(1, 9), None, random.below(5000)),
     };
@@ -272,14 +278,18 @@ fn hold_stay_notes(random: &mut Random, set: &[u8], plan: &[u8], counts: &mut Co
             2 => need + random.below(400),
             _ => need,
         };
+        let call = format!("stay note for {place} with scratch {scratch}");
         let expected = calls::stay_note(set, plan, place, scratch);
-        let word = archive::stay_note(random, set, plan, place, scratch)
-            .map_err(|error| format!("stay note for {place} with scratch {scratch}: {error}"))?;
+        let word = archive::stay_note(random, set, plan, place, scratch).map_err(|error| format!("{call}: {error}"))?;
         counts.stay_notes[expected.as_ref().err().map_or(0, |&number| usize::from(number))] += 1;
-        counts.notes += usize::from(matches!(expected, Ok(Some(_))));
-        if !calls::stay_note_word_is_right(&expected, word) {
-            return Err(format!("stay note for {place} with scratch {scratch}: {word:#x}, where {expected:?} is due"));
+        let right = calls::stay_note_word(&expected);
+        if word != right {
+            return Err(format!("{call}: the word is {word:#x} and not {right:#x}, as {expected:?} is due"));
         }
+        let (Ok((tables, tree)), Ok(Some(position))) = (&read, expected) else { continue };
+        let (values, keys) = sequences(tree, place, tables).expect("the sequences of a note");
+        counts.notes[usize::from(position > 0)] += 1;
+        counts.ended += usize::from(position == values.len().min(keys.len()));
     }
     Ok(())
 }

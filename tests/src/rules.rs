@@ -1,4 +1,4 @@
-//! The eight unnestings, weights, and the positions a stay note may give.
+//! The eight unnestings, weights, and the position that a stay note gives.
 
 use crate::check::{columns, introduced, read_plan};
 use crate::evaluate::{first_occurrences, rows};
@@ -40,16 +40,22 @@ pub fn try_step(plan: &Plan, rule: u8, place: usize, tables: &[Table]) -> Plan {
     }
 }
 
-/// All positions that a stay note for this place may give; none where no note is due.
-pub fn stay_positions(plan: &Plan, place: usize, tables: &[Table]) -> Option<Vec<usize>> {
+/// The sequences that U3, U4 or U6 compares at this place, if the node's shape is right for it: e's values and the first
+/// occurrences of the right keys.
+pub fn sequences(plan: &Plan, place: usize, tables: &[Table]) -> Option<(Vec<i32>, Vec<i32>)> {
+    propose(plan, place, tables)?.sequences
+}
+
+/// The position that the stay note for this place gives; none where no note is due. It is the smallest one at which the
+/// sequences differ, by code, or just one has ended: the length of their common beginning.
+pub fn stay_position(plan: &Plan, place: usize, tables: &[Table]) -> Option<usize> {
     let proposal = propose(plan, place, tables)?;
     let (left, right) = proposal.sequences?;
     if left == right {
         return None;
     }
     accepted_after(plan, place, proposal.becomes, tables)?;
-    let longest = left.len().max(right.len());
-    Some((0..longest).filter(|&position| left.get(position) != right.get(position)).collect())
+    Some(left.iter().zip(&right).take_while(|(one, other)| one == other).count())
 }
 
 /// The whole plan after a rule, if it passes refusals 8 to 14.

@@ -22,7 +22,7 @@ mod held {
         assert!(met(&counts.unnestings, 20), "{:?}", counts.unnestings);
         assert!(met(&counts.stay_notes[..15], 20) && counts.stay_notes[16] >= 20, "{:?}", counts.stay_notes);
         assert!(met(&counts.rules[1..], 200), "{:?}", counts.rules);
-        assert!(counts.notes >= 100, "{}", counts.notes);
+        assert!(met(&counts.notes, 100) && counts.ended >= 100, "{:?}, {}", counts.notes, counts.ended);
     }
 
     #[test]

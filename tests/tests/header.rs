@@ -52,7 +52,7 @@ fn expected(set: &[u8], plan: &[u8]) -> String {
     };
     for place in 0..3 {
         text += &match stay_note(set, plan, place, ROOMY) {
-            Ok(Some(positions)) => format!("note at {place}: position {}\n", positions[0]),
+            Ok(Some(position)) => format!("note at {place}: position {position}\n"),
             Ok(None) => format!("note at {place}: none, refusal 0\n"),
             Err(number) => format!("note at {place}: none, refusal {number}\n"),
         };
@@ -64,12 +64,12 @@ fn expected(set: &[u8], plan: &[u8]) -> String {
 fn a_c_program_gets_the_answers() {
     let program = written("club");
     run(compiler().arg("-std=c99").arg(file("tests/c/club.c")).arg(env!("CLUB_ARCHIVE_COPY")).arg("-o").arg(&program));
-    // The listing; a Semi whose sequences differ at one place only, so that just one note is right; a refusal.
-    let keys = [one_column(&[1, 2]), one_column(&[1, 2, 3])];
-    let shorter = semi(0, 1, second::plan::ALWAYS, distinct(&[0], scan(0, 0)), scan(1, 1));
+    // The listing; a Semi with a note, whose sequences differ from position 2 on; a refusal.
+    let keys = [one_column(&[1, 2, 4]), one_column(&[1, 2, 3, 5])];
+    let noted = semi(0, 1, second::plan::ALWAYS, distinct(&[0], scan(0, 0)), scan(1, 1));
     let inputs = [
         club(),
-        Input { tables: keys.to_vec(), plan: shorter },
+        Input { tables: keys.to_vec(), plan: noted },
         Input { tables: vec![], plan: select(NEVER, scan(0, 0)) },
         Input { tables: vec![], plan: Plan::Unit },
     ];

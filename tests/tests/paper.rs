@@ -1,4 +1,4 @@
-//! Paper 01's examples and the readings that were settled, against this evaluator.
+//! Paper 01's examples, the readings that were settled, and the change request K8, against this evaluator.
 
 use second::build::*;
 use second::calls::*;
@@ -9,7 +9,7 @@ use second::generate::Input;
 use second::nodes::{write_plan, HEADER, NODE};
 use second::plan::Comparison::{AtLeast, AtMost, Equal, Greater, Less, NotEqual};
 use second::plan::{Aggregate, Plan, Test, ALWAYS};
-use second::rules::{fit, free_id, stay_positions, try_step, weight};
+use second::rules::{fit, free_id, stay_position, try_step, weight};
 use second::tables::{write_set, Table};
 
 /// The report's rows, of an accepted plan.
@@ -103,7 +103,7 @@ fn m9_another_order_of_cards() {
     assert_eq!(listing(&set, &plan, ROOMY), "steps 2\nU2 0\nU7 0\nrows 2 columns 1\n7\n4\n");
     assert_eq!(stay_note(&set, &plan, 0, ROOMY), Ok(None));
     let left = unnest(&set, &plan, ROOMY, ROOMY, ROOMY).expect("steps").plan;
-    assert_eq!(stay_note(&set, &left, 0, ROOMY), Ok(Some(vec![0, 1])));
+    assert_eq!(stay_note(&set, &left, 0, ROOMY), Ok(Some(0)));
     assert_eq!(stay_note(&set, &left, 1, ROOMY), Ok(None));
     assert_eq!(stay_note(&set, &left, 200, ROOMY), Ok(None));
 }
@@ -307,8 +307,7 @@ fn u3_takes_off_one_select_and_compares_codes() {
     assert_eq!(rule(&tables, &of(select(NEVER, scan(1, 1)))), Some(3));
     // A second Select stays, and changes the sequence.
     assert_eq!(rule(&tables, &of(select(ALWAYS, select(NEVER, scan(1, 1))))), None);
-    let positions = stay_positions(&of(select(ALWAYS, select(NEVER, scan(1, 1)))), 0, &tables);
-    assert_eq!(positions, Some(vec![0, 1]));
+    assert_eq!(stay_position(&of(select(ALWAYS, select(NEVER, scan(1, 1)))), 0, &tables), Some(0));
     // Two empty sequences are equal.
     let empty = semi(0, 1, ALWAYS, distinct(&[0], scan(2, 0)), scan(2, 1));
     assert_eq!(rule(&tables, &empty), Some(3));
@@ -316,7 +315,7 @@ fn u3_takes_off_one_select_and_compares_codes() {
     let outside = some(ALWAYS, scan(1, 10), of(select(number_test(10, Equal, 7), scan(1, 1))));
     assert_eq!(refusal(&tables, &outside), None);
     assert_eq!(fit(&outside, 2, &tables), None);
-    assert_eq!(stay_positions(&outside, 2, &tables), None);
+    assert_eq!(stay_position(&outside, 2, &tables), None);
 }
 
 #[test]
@@ -340,13 +339,13 @@ fn u6_takes_off_no_select() {
     assert_eq!(fit(&plan, 0, &tables), Some((6, expected)));
     let never = pair(Aggregate::Sum(2), 5, keys(0, Less, 1), left(), select(NEVER, scan(1, 1)));
     assert_eq!(rule(&tables, &never), None);
-    assert_eq!(stay_positions(&never, 0, &tables), Some(vec![0, 1, 2]));
+    assert_eq!(stay_position(&never, 0, &tables), Some(0));
     let shorter = select(number_test(1, Greater, 4), scan(1, 1));
     let shorter = pair(Aggregate::Sum(2), 5, keys(0, Less, 1), left(), shorter);
-    assert_eq!(stay_positions(&shorter, 0, &tables), Some(vec![2]));
+    assert_eq!(stay_position(&shorter, 0, &tables), Some(2));
     let naming = with_test(plan.clone(), columns_test(0, Less, 2));
     assert_eq!(rule(&tables, &naming), None);
-    assert_eq!(stay_positions(&naming, 0, &tables), None);
+    assert_eq!(stay_position(&naming, 0, &tables), None);
     assert_eq!(rule(&tables, &with_test(plan, NEVER)), Some(6));
 }
 
@@ -359,8 +358,68 @@ fn a_bound_that_grows_over_the_limit_keeps_a_rule_from_fitting() {
     assert_eq!(fit(&plan, 1, &[keyed(4), keyed(64), other.clone()]).map(|(rule, _)| rule), Some(3));
     assert_eq!(fit(&plan, 1, &[keyed(4), keyed(65), other.clone()]), None);
     // No stay note either where the plan after would be refused.
-    assert_eq!(stay_positions(&plan, 1, &[keyed(3), keyed(65), other.clone()]), None);
-    assert_eq!(stay_positions(&plan, 1, &[keyed(3), keyed(64), other]), Some(vec![3]));
+    assert_eq!(stay_position(&plan, 1, &[keyed(3), keyed(65), other.clone()]), None);
+    assert_eq!(stay_position(&plan, 1, &[keyed(3), keyed(64), other]), Some(3));
+}
+
+/// The note for a Semi, an Anti and a Pair, the same for all three, where e's cells and the right keys are these. Without a note
+/// their rules fit: nothing but the sequences can keep them from it.
+fn note(cells: &[i32], right_keys: &[i32]) -> Option<usize> {
+    let tables = [one_column(cells), one_column(right_keys)];
+    let left = || distinct(&[0], scan(0, 0));
+    let semi = semi(0, 1, ALWAYS, left(), scan(1, 1));
+    let anti = anti(0, 1, ALWAYS, left(), scan(1, 1));
+    let pair = pair(Aggregate::Count, 5, keys(0, NotEqual, 1), left(), scan(1, 1));
+    let notes = [(3, semi), (4, anti), (6, pair)].map(|(number, plan)| {
+        let note = stay_note(&write_set(&tables), &write_plan(&plan), 0, ROOMY).expect("an accepted plan");
+        assert_eq!(rule(&tables, &plan), note.is_none().then_some(number));
+        note
+    });
+    assert!(notes.iter().all(|note| *note == notes[0]), "{notes:?}");
+    notes[0]
+}
+
+#[test]
+fn k8_a_note_gives_the_smallest_position() {
+    // They differ at 0 alone and from 0 on; later, at one position and at several, with equal values in between.
+    assert_eq!(note(&[7], &[9]), Some(0));
+    assert_eq!(note(&[7, 9], &[9, 7]), Some(0));
+    assert_eq!(note(&[7, 9, 4], &[7, 9, 5]), Some(2));
+    assert_eq!(note(&[7, 9, 4, 5], &[7, 9, 5, 4]), Some(2));
+    assert_eq!(note(&[1, 2, 3, 4, 5], &[1, 8, 3, 9, 5]), Some(1));
+    // Just one has ended: the first, the second, one of no values at all.
+    assert_eq!(note(&[7, 9], &[7, 9, 4, 5]), Some(2));
+    assert_eq!(note(&[7, 9, 4, 5], &[7, 9]), Some(2));
+    assert_eq!(note(&[], &[7, 9]), Some(0));
+    assert_eq!(note(&[7, 9], &[]), Some(0));
+    // They differ before one ends.
+    assert_eq!(note(&[7, 9, 4], &[7, 5]), Some(1));
+    assert_eq!(note(&[7, 5], &[7, 9, 4]), Some(1));
+    // Positions count values, not rows.
+    assert_eq!(note(&[7, 7, 9, 7, 4], &[7, 9, 9, 5]), Some(2));
+    assert_eq!(note(&[7, 7, 9], &[7, 9, 9, 7]), None);
+    assert_eq!(note(&[], &[]), None);
+    // The last position of the tallest tables.
+    let tall: Vec<i32> = (0..1000).collect();
+    assert_eq!(note(&tall, &tall[..999]), Some(999));
+    assert_eq!(note(&[&tall[..999], &[-1]].concat(), &tall), Some(999));
+}
+
+#[test]
+fn k8_codes_decide_where_the_sequences_differ() {
+    // A blank is no difference from a blank, nor off scale from off scale.
+    assert_eq!(note(&[BLANK, OFF_SCALE, 7], &[BLANK, OFF_SCALE, 7]), None);
+    assert_eq!(note(&[BLANK, OFF_SCALE, 7], &[BLANK, OFF_SCALE, 9]), Some(2));
+    // A blank differs from off scale and from a number, and so does off scale.
+    assert_eq!(note(&[7, BLANK], &[7, OFF_SCALE]), Some(1));
+    assert_eq!(note(&[7, OFF_SCALE], &[7, BLANK]), Some(1));
+    assert_eq!(note(&[7, BLANK, 4], &[7, 0, 4]), Some(1));
+    assert_eq!(note(&[7, 0, 4], &[7, BLANK, 4]), Some(1));
+    assert_eq!(note(&[OFF_SCALE], &[LARGEST]), Some(0));
+    assert_eq!(note(&[LARGEST], &[OFF_SCALE]), Some(0));
+    // A blank is a value, not an end.
+    assert_eq!(note(&[7, BLANK], &[7]), Some(1));
+    assert_eq!(note(&[7], &[7, BLANK]), Some(1));
 }
 
 #[test]
@@ -372,7 +431,7 @@ fn no_free_id_no_fit_and_no_note() {
         match free_id(&input.plan, &input.tables) {
             None => {
                 assert_eq!(fit(&input.plan, place, &input.tables), None);
-                assert_eq!(stay_positions(&input.plan, place, &input.tables), None);
+                assert_eq!(stay_position(&input.plan, place, &input.tables), None);
             }
             Some(id) => assert_eq!(id, 255),
         }
@@ -442,10 +501,8 @@ fn words_for_c() {
     let answer = report(&club().set_bytes(), &club().plan_bytes(), ROOMY, ROOMY);
     assert_eq!(report_word(&answer), (1 << 8) + (2 << 16));
     assert_eq!(report_word(&Err(12)), 12);
-    let note = Ok(Some(vec![2, 5]));
-    assert!(stay_note_word_is_right(&note, (1 << 8) + (5 << 16)));
-    assert!(!stay_note_word_is_right(&note, (1 << 8) + (3 << 16)));
-    assert!(!stay_note_word_is_right(&note, 0));
-    assert!(stay_note_word_is_right(&Ok(None), 0));
-    assert!(stay_note_word_is_right(&Err(16), 16));
+    assert_eq!(stay_note_word(&Ok(Some(0))), 1 << 8);
+    assert_eq!(stay_note_word(&Ok(Some(5))), (1 << 8) + (5 << 16));
+    assert_eq!(stay_note_word(&Ok(None)), 0);
+    assert_eq!(stay_note_word(&Err(16)), 16);
 }

@@ -3,10 +3,10 @@
 
 use second::calls::{read, report_of, unnest_tree};
 use second::check::columns;
-use second::generate::{accepted, steps};
+use second::generate::{accepted, common_beginning, steps};
 use second::nodes::write_plan;
 use second::random::Random;
-use second::rules::{first_fit, fit, stay_positions, try_step, weight};
+use second::rules::{first_fit, fit, sequences, stay_position, try_step, weight};
 
 /// How many random plans are tried.
 const PLANS: u64 = 10_000;
@@ -65,23 +65,23 @@ fn any_list_of_steps_keeps_the_report() {
 
 #[test]
 fn a_stay_note_stands_only_where_no_rule_fits() {
-    let (mut notes, mut ended, mut differing) = (0, 0, 0);
-    for seed in 0..4_000 {
-        let input = accepted(&mut Random::new(2_000_000 + seed));
+    let (mut notes, mut ended) = ([0usize; 2], 0usize);
+    for seed in 0..4_400 {
+        let mut random = Random::new(2_000_000 + seed);
+        let input = if seed < 4_000 { accepted(&mut random) } else { common_beginning(&mut random) };
         for place in 0..input.plan.size() + 2 {
-            let Some(positions) = stay_positions(&input.plan, place, &input.tables) else {
+            let Some(position) = stay_position(&input.plan, place, &input.tables) else {
                 continue;
             };
-            notes += 1;
-            assert!(!positions.is_empty());
             assert!(fit(&input.plan, place, &input.tables).is_none());
-            if positions.len() == 1 {
-                ended += 1;
-            } else {
-                differing += 1;
-            }
+            // Equal before the position; at it they differ, or one has a value and the other has none.
+            let (values, keys) = sequences(&input.plan, place, &input.tables).expect("the sequences of a note");
+            assert_eq!(values[..position], keys[..position], "seed {seed}");
+            assert_ne!(values.get(position), keys.get(position), "seed {seed}");
+            notes[usize::from(position > 0)] += 1;
+            ended += usize::from(position == values.len().min(keys.len()));
         }
     }
-    println!("stay notes {notes}, with one position {ended}, with several {differing}");
-    assert!(notes > 100);
+    println!("stay notes with position 0 and with a later one {notes:?}, where just one sequence has ended {ended}");
+    assert!(notes.iter().all(|&count| count > 100) && ended > 100, "{notes:?}, {ended}");
 }
