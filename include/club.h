@@ -49,8 +49,8 @@ uint64_t club_unnest(const uint8_t *set, size_t set_len, const uint8_t *plan, si
                      uint8_t *out_plan, size_t out_plan_len, uint8_t *out_steps, size_t out_steps_len,
                      uint32_t *scratch, size_t scratch_len);
 
-/* A position, from 0, at which the two sequences differ that keep U3, U4 or U6 from fitting at a place, or at which just one of them
- * has ended. Gives the refusal (1 to 14, or 16), or 2^8 + 2^16 * position, or 0 where no note is due. */
+/* The smallest position, from 0, at which the two sequences differ that keep U3, U4 or U6 from fitting at a place, or at which just one
+ * of them has ended. Gives the refusal (1 to 14, or 16), or 2^8 + 2^16 * position, or 0 where no note is due. */
 uint64_t club_stay_note(const uint8_t *set, size_t set_len, const uint8_t *plan, size_t plan_len,
                         size_t place, uint32_t *scratch, size_t scratch_len);
 

@@ -1,4 +1,4 @@
-//! A second evaluator of club report plans, written from the papers alone: paper 01, changed by K8 of paper 02.
+//! A second evaluator of club report plans, written from the papers alone: paper 01, and the requests of paper 02 that have landed.
 //!
 //! It shares no code and no definition with the proved library: it reads the same bytes in its
 //! own way, so that a mistake in reading the paper shows as a difference between the two.

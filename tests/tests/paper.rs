@@ -1,4 +1,4 @@
-//! Paper 01's examples, the readings that were settled, and the change request K8, against this evaluator.
+//! Paper 01's examples, the readings that were settled, and paper 02's change requests, against this evaluator.
 
 use second::build::*;
 use second::calls::*;

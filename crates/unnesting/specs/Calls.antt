@@ -1,5 +1,5 @@
 -- No result of a call is left to the program (docs/DEFINITION.md, "The calls"): its answer and what it leaves in its buffers are functions of
--- what it is given. Definitions only; the proof is `nothing-left` of proofs/Calls.antt. A set and a plan are lists of bytes.
+-- what it is given and lent. Definitions only; the proof is `nothing-left` of proofs/Calls.antt. A set and a plan are lists of bytes.
 use Prim.Native.Nat.{ℕ}
 use mathlib.Core.Path.{_≡_}
 use mathlib.Core.List.{List}
@@ -13,12 +13,15 @@ use Rattle.unnesting.specs.Unnest.{Unnested}
 use Rattle.unnesting.specs.StayNote.{noteDue, StayNoted}
 use Rattle.unnesting.specs.declared.stay_note.StayNote.{StayNote}
 
--- A promise says, of what a call is given, what stands in the buffers lent before and after it, and its answer, whether it is kept. This
--- one is kept by one answer and one content of the buffers after the call, and by no other. The answer is a function of what is given and
--- of the buffers' sizes, whatever stands in them.
+-- A promise is a claim about what a call is given, what the buffers lent hold before and after it, and its answer. This one leaves nothing
+-- open. So two calls that are given the same, and are lent buffers of the same sizes, answer the same; and where these buffers held the same
+-- before, they hold the same afterwards (`same-answer` and `same-buffers` of proofs/Calls.antt).
 pub record Determined {Given Buffers Sizes Answer : Type 0} (sizes : Buffers → Sizes) (Promise : Given → Buffers → Buffers → Answer → Type 0) : Type 0 where
+  -- the answer, by what is given and by the buffers' sizes, whatever stands in them
   pub answer : Given → Sizes → Answer
+  -- what the buffers hold after the call
   pub after : Given → Buffers → Buffers
+  -- these keep the promise, and nothing else does
   pub kept : (given : Given) (before : Buffers) → Promise given before (after given before) (answer given (sizes before))
   pub only : (given : Given) (before left : Buffers) (r : Answer) → Promise given before left r → (left ≡ after given before) × (r ≡ answer given (sizes before))
 
