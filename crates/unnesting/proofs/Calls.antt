@@ -1,14 +1,11 @@
 -- No result of a call is left to the program. Assumes nothing.
 use Prim.Native.Nat.{ℕ}
 use mathlib.Core.Path.{_≡_, refl, sym, ap, _∙_}
-use mathlib.Core.List.{List}
-use lib.IntN.{ℤ}
 use lib.ListN.{length}
 use Rattle.algebra.proofs.StayNotes.{note-smallest}
 use Rattle.reading.specs.TableSet.{tablesOf}
 use Rattle.reading.specs.Tree.{planOf}
 use Rattle.reading.specs.Check.{inputRefusal}
-use Rattle.reporting.specs.declared.answer.Report.{Report}
 use Rattle.reporting.specs.Report.{rowCount, columnCount, reportCodes, reportNumber, countAfter, outputAfter, scratchAfter}
 use Rattle.unnesting.specs.Unnest.{unnestSteps, writtenSteps, writtenPlan, unnestNumber, bytesAfter}
 use Rattle.unnesting.specs.StayNote.{stayAnswer}

@@ -4,13 +4,13 @@ use mathlib.Core.Bool.{Bool, true, false, not, cond, true≢false, false≢true}
 use mathlib.Core.Logic.{_≢_, _⊎_, inl, inr}
 use mathlib.Core.Path.{_≡_, refl, sym, ap, ap₂, _∙_, subst}
 use mathlib.Core.List.{List, [], _∷_, _++_}
-use mathlib.Core.Option.{Option, none, some, Option·some-ne-none, Option·none-ne-some, Option·some-injective}
+use mathlib.Core.Option.{Option, none, some}
 use native.Mathlib.Omega.{arith}
 use native.Mathlib.Decide.{ℕ-discrete}
 use native.Mathlib.Numerals.{add-one}
 use lib.Dec.{eqb}
 use lib.ListN.{length, getD, take, drop, set as put, replicate, length-append, length-map}
-use lib.Seq.{take-suc, take-all, take-at, take-suc-set}
+use lib.Seq.{take-suc, take-at, take-suc-set}
 use borrow.Author.Tests.{eq-eqb, ne-eqb, le-ltb}
 use Rattle.algebra.specs.Lists.{isEmpty, flatMap, sameRows}
 use Rattle.algebra.specs.Plans.{Row, Tables, isPlain, select, distinct, Binary, cross, semi, quant, fold, each, pair, Plan, leaf, one, two, columns, eval}

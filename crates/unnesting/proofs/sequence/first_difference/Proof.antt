@@ -6,11 +6,11 @@ use Rattle.unnesting.proofs.sequence.first_difference.Reads as reads
 use Rattle.unnesting.proofs.sequence.first_difference.Lts as lts
 use Rattle.unnesting.proofs.sequence.common_beginning.Reads as common-beginning-reads
 
--- src/sequence.rt:68:9
+-- src/sequence.rt:66:9
 common-beginning-requires : tie.Need-common-beginning-requires
 common-beginning-requires c κs = search needs
 
--- src/sequence.rt:70:9
+-- src/sequence.rt:68:9
 returns : tie.Need-returns
 returns c =
     let a = c .before .before .before .before .args in
