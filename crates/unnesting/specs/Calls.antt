@@ -13,9 +13,9 @@ use Rattle.unnesting.specs.Unnest.{Unnested}
 use Rattle.unnesting.specs.StayNote.{noteDue, StayNoted}
 use Rattle.unnesting.specs.declared.stay_note.StayNote.{StayNote}
 
--- A promise is a claim about what a call is given, what the buffers lent hold before and after it, and its answer. This one leaves nothing
--- open. So two calls that are given the same, and are lent buffers of the same sizes, answer the same; and where these buffers held the same
--- before, they hold the same afterwards (`same-answer` and `same-buffers` of proofs/Calls.antt).
+-- A promise is a claim about what a call is given, what the buffers lent hold before and after it, and its answer. It is determined where
+-- one answer and one content of the buffers keep it. So two calls that are given the same, and are lent buffers of the same sizes, answer
+-- the same; and where these buffers held the same before, they hold the same afterwards (`same-answer` and `same-buffers` of proofs/Calls.antt).
 pub record Determined {Given Buffers Sizes Answer : Type 0} (sizes : Buffers → Sizes) (Promise : Given → Buffers → Buffers → Answer → Type 0) : Type 0 where
   -- the answer, by what is given and by the buffers' sizes, whatever stands in them
   pub answer : Given → Sizes → Answer
