@@ -34,23 +34,23 @@ smallest-first [] [] h = absurd (true≢false h)
 smallest-first [] (y ∷ ys) h = record { differ = λ e. Option·none-ne-some _ e; alikeBefore = λ i l. absurd (omega arith) }
 smallest-first (x ∷ xs) [] h = record { differ = λ e. Option·some-ne-none _ e; alikeBefore = λ i l. absurd (omega arith) }
 smallest-first (x ∷ xs) (y ∷ ys) h =
-    (elim (same x y) as (λ b. same x y ≡ b → b && sameRows xs ys ≡ false → SmallestDifference (x ∷ xs) (y ∷ ys) (length (cond b (x ∷ commonBeginning xs ys) []))) [
-      | true ↦ λ e k. smallest-next x y xs ys (firstDifference xs ys) (same-true x y e) (smallest-first xs ys k)
-      | false ↦ λ e k. record {
+    (elim (same x y) as (λ b. same x y ≡ b → SmallestDifference (x ∷ xs) (y ∷ ys) (firstDifference (x ∷ xs) (y ∷ ys))) [
+      | true ↦ λ e. rw e (smallest-next x y xs ys (firstDifference xs ys) (same-true x y e) (smallest-first xs ys (rw e at h)))
+      | false ↦ λ e. rw e (record {
         differ = λ z. true≢false (sym (subst (λ v. same x v ≡ true) (Option·some-injective x y z) (same-self x)) ∙ e);
         alikeBefore = λ i l. absurd (omega arith);
-      }
-    ]) refl h
+      })
+    ]) refl
 
 -- it lies within the first sequence, or at its end
 pub first-within : (xs ys : List Row) → firstDifference xs ys ≤ length xs
 first-within [] ys = omega arith
 first-within (x ∷ xs) [] = omega arith
 first-within (x ∷ xs) (y ∷ ys) =
-    elim (same x y) as (λ b. length (cond b (x ∷ commonBeginning xs ys) []) ≤ suc (length xs)) [
-      | true ↦ let h = first-within xs ys in omega arith
-      | false ↦ omega arith
-    ]
+    (elim (same x y) as (λ b. same x y ≡ b → firstDifference (x ∷ xs) (y ∷ ys) ≤ suc (length xs)) [
+      | true ↦ λ e. rw e (let h = first-within xs ys in omega arith)
+      | false ↦ λ e. rw e (omega arith)
+    ]) refl
 
 -- all of a sequence is common with itself
 common-self : (xs : List Row) → firstDifference xs xs ≡ length xs
@@ -63,10 +63,10 @@ common-all [] [] l h = refl
 common-all [] (y ∷ ys) l h = absurd (omega arith)
 common-all (x ∷ xs) [] l h = absurd (omega arith)
 common-all (x ∷ xs) (y ∷ ys) l h =
-    (elim (same x y) as (λ b. suc (length xs) ≤ length (cond b (x ∷ commonBeginning xs ys) []) → b && sameRows xs ys ≡ true) [
-      | true ↦ λ k. common-all xs ys (omega arith) (omega arith)
-      | false ↦ λ k. absurd (omega arith)
-    ]) h
+    (elim (same x y) as (λ b. same x y ≡ b → sameRows (x ∷ xs) (y ∷ ys) ≡ true) [
+      | true ↦ λ e. rw e (let k = rw e at h in common-all xs ys (omega arith) (omega arith))
+      | false ↦ λ e. let k = rw e at h in absurd (omega arith)
+    ]) refl
 
 -- and in no other case
 pub common-part : (xs ys : List Row) → (length xs < length ys) ⊎ (firstDifference xs ys < length xs) → sameRows xs ys ≡ false
