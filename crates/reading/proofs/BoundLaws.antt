@@ -1,11 +1,16 @@
 -- Laws of the row bound, capped at 4,097. Assumes nothing.
-use Prim.Native.Nat.{ℕ, _*_, _≤_, _<_, min, max}
+use Prim.Native.Nat.{ℕ, _*_, _/_, _≤_, _<_, min, max}
 use native.Mathlib.Omega.{arith}
 use native.Mathlib.Decide.{decLe}
-use native.Mathlib.Nat.{mul-le-mul, mul-zero, zero-mul, mul-one}
-use mathlib.Core.Path.{_≡_, refl, ap, _∙_}
+use native.Mathlib.Nat.{mul-le-mul, mul-zero, zero-mul, mul-one, le-div-iff-mul-le, div-lt-iff-lt-mul}
+use mathlib.Core.Path.{_≡_, refl, ap, sym, _∙_}
+use mathlib.Core.Bool.{Bool, true, false}
 use mathlib.Core.List.{List}
+use lib.Dec.{leb}
 use lib.ListN.{length, length-map}
+use mir.Syntax.{w16}
+use mir.Val.{Fits}
+use borrow.Author.Tests.{le-leb, lt-leb, leb-true, leb-false}
 use Rattle.algebra.specs.Plans.{Tables, Leaf, unit, Unary, Binary, cross, semi, quant, fold, each, pair, Plan, leaf, one, two}
 use Rattle.algebra.specs.Places.{Operator, leafNode, unaryNode, binaryNode}
 use Rattle.algebra.specs.Refusals.{bound, perRow}
@@ -44,6 +49,25 @@ cap-mul a b = go (decLe a 4097) (decLe b 4097)
         low : Dec (a ≤ 0) → min (min a 4097 * min b 4097) 4097 ≡ min (a * b) 4097
         low (yes z) = let q : a ≡ 0 = omega arith in rw (q, zero-mul, zero-mul)
         low (no z) = omega (arith, big′ (min a 4097) (min b 4097) (omega arith) (omega arith), big′ a b (omega arith) (omega arith))
+
+-- the quotient tells whether a product is within a number, before the product is formed
+pub product-test : (x y most : ℕ) → 0 < y → leb x (most / y) ≡ leb (x * y) most
+product-test x y most h = go (decLe x (most / y))
+  where
+    go : Dec (x ≤ most / y) → leb x (most / y) ≡ leb (x * y) most
+    go (yes k) = le-leb x (most / y) k ∙ sym (le-leb (x * y) most (le-div-iff-mul-le h .0 k))
+    go (no k) = let q : most / y < x = omega arith in lt-leb x (most / y) q ∙ sym (lt-leb (x * y) most (div-lt-iff-lt-mul h .0 q))
+
+-- a number that passes the test fits 16 bits and is not changed by the cap; one that does not pass is capped to 4,097
+module _ (passed : Bool) (n : ℕ) (e : passed ≡ leb n 4096) where
+  pub low-fits : passed ≡ true → Fits w16 n
+  low-fits t = let h = leb-true n 4096 (sym e ∙ t) in omega arith
+
+  pub low-capped : passed ≡ true → n ≡ min n 4097
+  low-capped t = let h = leb-true n 4096 (sym e ∙ t) in omega arith
+
+  pub high-capped : passed ≡ false → 4097 ≡ min n 4097
+  high-capped t = let h = leb-false n 4096 (sym e ∙ t) in omega arith
 
 -- ---- a node's bound, of those of its children
 

@@ -8,29 +8,29 @@ use Rattle.reading.proofs.BoundLaws.{bounds, unit-bound}
 use Prim.Native.Nat.{ℕ, _<_}
 use borrow.Fn.Kinds.{In}
 use borrow.Fn.PlainCycle.{Measures, is, falls, and}
-use Rattle.reading.proofs.bound.bound_at.Reads as bound-at
-use Rattle.reading.proofs.bound.bound_at.Kinds as bound-at-kinds
-use Rattle.reading.proofs.bound.+bound_at.Lts-bound_at as bound-at-lts
+use Rattle.reading.proofs.bound.running_bound.Reads as running-bound
+use Rattle.reading.proofs.bound.running_bound.Kinds as running-bound-kinds
+use Rattle.reading.proofs.bound.+running_bound.Lts-running_bound as running-bound-lts
 use Rattle.reading.proofs.bound.node_bound.Reads as node-bound-reads
 use Rattle.reading.proofs.kinds.children_of.Reads as children-of-reads
 use Rattle.reading.proofs.plan.node_at.Reads as node-at-reads
 use Rattle.reading.proofs.tree.nodes_of.Reads as nodes-of-reads
 use Rattle.reading.proofs.tree.tree_end.Reads as tree-end-reads
-use Rattle.reading.proofs.bound.+bound_at.{statement}
-use Rattle.reading.proofs.bound.+bound_at.Tie.{close}
+use Rattle.reading.proofs.bound.+running_bound.{statement}
+use Rattle.reading.proofs.bound.+running_bound.Tie.{close}
 
-abbrev μ-bound-at : Measures 2 bound-at-kinds.ps ℕ
-μ-bound-at κs a = nodesOf (a .1 .0 .now) - a .1 .1 .0
+abbrev μ-running-bound : Measures 2 running-bound-kinds.ps ℕ
+μ-running-bound κs a = nodesOf (a .1 .0 .now) - a .1 .1 .0
 
-abbrev bound-at-at : ℕ → In 2 bound-at-kinds.ps
-bound-at-at t = and 2 bound-at-kinds.ps (is 2 bound-at-kinds.ps μ-bound-at t) bound-at.Pre
+abbrev running-bound-at : ℕ → In 2 running-bound-kinds.ps
+running-bound-at t = and 2 running-bound-kinds.ps (is 2 running-bound-kinds.ps μ-running-bound t) running-bound.Pre
 
-abbrev bound-at-below : ℕ → In 2 bound-at-kinds.ps
-bound-at-below t =
-    and 2 bound-at-kinds.ps (falls 2 bound-at-kinds.ps _<_ μ-bound-at t) bound-at.Pre
+abbrev running-bound-below : ℕ → In 2 running-bound-kinds.ps
+running-bound-below t =
+    and 2 running-bound-kinds.ps (falls 2 running-bound-kinds.ps _<_ μ-running-bound t) running-bound.Pre
 
--- src/bound.rt:53:8
-bound-at-nodes-of-requires : (t : ℕ) → bound-at-lts.Need-nodes-of-requires (
+-- src/bound.rt:75:8
+running-bound-nodes-of-requires : (t : ℕ) → running-bound-lts.Need-nodes-of-requires (
   nodes-of-reads.Asked,
   nodes-of-reads.Learnt,
   node-at-reads.Asked,
@@ -39,15 +39,15 @@ bound-at-nodes-of-requires : (t : ℕ) → bound-at-lts.Need-nodes-of-requires (
   children-of-reads.Learnt,
   node-bound-reads.Asked,
   node-bound-reads.Learnt,
-  bound-at-below t,
-  bound-at.Post,
+  running-bound-below t,
+  running-bound.Post,
   tree-end-reads.Asked,
   tree-end-reads.Learnt,
-) (bound-at-at t) bound-at.Post
-bound-at-nodes-of-requires t c κs = tt
+) (running-bound-at t) running-bound.Post
+running-bound-nodes-of-requires t c κs = tt
 
--- src/bound.rt:54:9
-bound-at-returns : (t : ℕ) → bound-at-lts.Need-returns (
+-- src/bound.rt:76:9
+running-bound-returns : (t : ℕ) → running-bound-lts.Need-returns (
   nodes-of-reads.Asked,
   nodes-of-reads.Learnt,
   node-at-reads.Asked,
@@ -56,17 +56,17 @@ bound-at-returns : (t : ℕ) → bound-at-lts.Need-returns (
   children-of-reads.Learnt,
   node-bound-reads.Asked,
   node-bound-reads.Learnt,
-  bound-at-below t,
-  bound-at.Post,
+  running-bound-below t,
+  running-bound.Post,
   tree-end-reads.Asked,
   tree-end-reads.Learnt,
-) (bound-at-at t) bound-at.Post
-bound-at-returns t c =
+) (running-bound-at t) running-bound.Post
+running-bound-returns t c =
     let a = c .before .before .before .before .args in
     ap (λ (n : ℕ). min n 4097) (sym (unit-bound (tablesOf (a .set .now))) ∙ past-number (bounds (tablesOf (a .set .now))) (a .plan .now) (a .i) (omega arith))
 
--- src/bound.rt:56:9
-bound-at-node-at-requires : (t : ℕ) → bound-at-lts.Need-node-at-requires (
+-- src/bound.rt:78:9
+running-bound-node-at-requires : (t : ℕ) → running-bound-lts.Need-node-at-requires (
   nodes-of-reads.Asked,
   nodes-of-reads.Learnt,
   node-at-reads.Asked,
@@ -75,15 +75,15 @@ bound-at-node-at-requires : (t : ℕ) → bound-at-lts.Need-node-at-requires (
   children-of-reads.Learnt,
   node-bound-reads.Asked,
   node-bound-reads.Learnt,
-  bound-at-below t,
-  bound-at.Post,
+  running-bound-below t,
+  running-bound.Post,
   tree-end-reads.Asked,
   tree-end-reads.Learnt,
-) (bound-at-at t) bound-at.Post
-bound-at-node-at-requires t c κs = tt
+) (running-bound-at t) running-bound.Post
+running-bound-node-at-requires t c κs = tt
 
--- src/bound.rt:57:9
-bound-at-children-of-requires : (t : ℕ) → bound-at-lts.Need-children-of-requires (
+-- src/bound.rt:79:9
+running-bound-children-of-requires : (t : ℕ) → running-bound-lts.Need-children-of-requires (
   nodes-of-reads.Asked,
   nodes-of-reads.Learnt,
   node-at-reads.Asked,
@@ -92,15 +92,15 @@ bound-at-children-of-requires : (t : ℕ) → bound-at-lts.Need-children-of-requ
   children-of-reads.Learnt,
   node-bound-reads.Asked,
   node-bound-reads.Learnt,
-  bound-at-below t,
-  bound-at.Post,
+  running-bound-below t,
+  running-bound.Post,
   tree-end-reads.Asked,
   tree-end-reads.Learnt,
-) (bound-at-at t) bound-at.Post
-bound-at-children-of-requires t c κs = tt
+) (running-bound-at t) running-bound.Post
+running-bound-children-of-requires t c κs = tt
 
--- src/bound.rt:59:9
-bound-at-node-bound-requires : (t : ℕ) → bound-at-lts.Need-node-bound-requires (
+-- src/bound.rt:81:9
+running-bound-node-bound-requires : (t : ℕ) → running-bound-lts.Need-node-bound-requires (
   nodes-of-reads.Asked,
   nodes-of-reads.Learnt,
   node-at-reads.Asked,
@@ -109,15 +109,15 @@ bound-at-node-bound-requires : (t : ℕ) → bound-at-lts.Need-node-bound-requir
   children-of-reads.Learnt,
   node-bound-reads.Asked,
   node-bound-reads.Learnt,
-  bound-at-below t,
-  bound-at.Post,
+  running-bound-below t,
+  running-bound.Post,
   tree-end-reads.Asked,
   tree-end-reads.Learnt,
-) (bound-at-at t) bound-at.Post
-bound-at-node-bound-requires t c κs = omega arith
+) (running-bound-at t) running-bound.Post
+running-bound-node-bound-requires t c κs = omega arith
 
--- src/bound.rt:59:9
-bound-at-returns-2 : (t : ℕ) → bound-at-lts.Need-returns-2 (
+-- src/bound.rt:81:9
+running-bound-returns-2 : (t : ℕ) → running-bound-lts.Need-returns-2 (
   nodes-of-reads.Asked,
   nodes-of-reads.Learnt,
   node-at-reads.Asked,
@@ -126,18 +126,18 @@ bound-at-returns-2 : (t : ℕ) → bound-at-lts.Need-returns-2 (
   children-of-reads.Learnt,
   node-bound-reads.Asked,
   node-bound-reads.Learnt,
-  bound-at-below t,
-  bound-at.Post,
+  running-bound-below t,
+  running-bound.Post,
   tree-end-reads.Asked,
   tree-end-reads.Learnt,
-) (bound-at-at t) bound-at.Post
-bound-at-returns-2 t c =
+) (running-bound-at t) running-bound.Post
+running-bound-returns-2 t c =
     let a = c .before .before .before .before .before .before .before .before .args in
     c .node-bound .ensures ∙ leaf-number (bounds (tablesOf (a .set .now))) (a .plan .now) (a .i) (omega arith) _ (c .before .before .before .node-at .ensures) _ (c .before .before .children-of .ensures)
     (c .before .if2 .taken) 0 0
 
--- src/bound.rt:61:37
-bound-at-add-bound-at : (t : ℕ) → bound-at-lts.Need-add-bound-at (
+-- src/bound.rt:83:42
+running-bound-add-running-bound : (t : ℕ) → running-bound-lts.Need-add-running-bound (
   nodes-of-reads.Asked,
   nodes-of-reads.Learnt,
   node-at-reads.Asked,
@@ -146,15 +146,15 @@ bound-at-add-bound-at : (t : ℕ) → bound-at-lts.Need-add-bound-at (
   children-of-reads.Learnt,
   node-bound-reads.Asked,
   node-bound-reads.Learnt,
-  bound-at-below t,
-  bound-at.Post,
+  running-bound-below t,
+  running-bound.Post,
   tree-end-reads.Asked,
   tree-end-reads.Learnt,
-) (bound-at-at t) bound-at.Post
-bound-at-add-bound-at t c = omega arith
+) (running-bound-at t) running-bound.Post
+running-bound-add-running-bound t c = omega arith
 
--- src/bound.rt:61:9
-bound-at-bound-at-requires : (t : ℕ) → bound-at-lts.Need-bound-at-requires (
+-- src/bound.rt:83:9
+running-bound-running-bound-requires : (t : ℕ) → running-bound-lts.Need-running-bound-requires (
   nodes-of-reads.Asked,
   nodes-of-reads.Learnt,
   node-at-reads.Asked,
@@ -163,15 +163,15 @@ bound-at-bound-at-requires : (t : ℕ) → bound-at-lts.Need-bound-at-requires (
   children-of-reads.Learnt,
   node-bound-reads.Asked,
   node-bound-reads.Learnt,
-  bound-at-below t,
-  bound-at.Post,
+  running-bound-below t,
+  running-bound.Post,
   tree-end-reads.Asked,
   tree-end-reads.Learnt,
-) (bound-at-at t) bound-at.Post
-bound-at-bound-at-requires t c κs = omega arith
+) (running-bound-at t) running-bound.Post
+running-bound-running-bound-requires t c κs = omega arith
 
--- src/bound.rt:63:9
-bound-at-node-bound-requires-2 : (t : ℕ) → bound-at-lts.Need-node-bound-requires-2 (
+-- src/bound.rt:85:9
+running-bound-node-bound-requires-2 : (t : ℕ) → running-bound-lts.Need-node-bound-requires-2 (
   nodes-of-reads.Asked,
   nodes-of-reads.Learnt,
   node-at-reads.Asked,
@@ -180,15 +180,15 @@ bound-at-node-bound-requires-2 : (t : ℕ) → bound-at-lts.Need-node-bound-requ
   children-of-reads.Learnt,
   node-bound-reads.Asked,
   node-bound-reads.Learnt,
-  bound-at-below t,
-  bound-at.Post,
+  running-bound-below t,
+  running-bound.Post,
   tree-end-reads.Asked,
   tree-end-reads.Learnt,
-) (bound-at-at t) bound-at.Post
-bound-at-node-bound-requires-2 t c κs = omega arith
+) (running-bound-at t) running-bound.Post
+running-bound-node-bound-requires-2 t c κs = omega arith
 
--- src/bound.rt:63:9
-bound-at-returns-3 : (t : ℕ) → bound-at-lts.Need-returns-3 (
+-- src/bound.rt:85:9
+running-bound-returns-3 : (t : ℕ) → running-bound-lts.Need-returns-3 (
   nodes-of-reads.Asked,
   nodes-of-reads.Learnt,
   node-at-reads.Asked,
@@ -197,18 +197,18 @@ bound-at-returns-3 : (t : ℕ) → bound-at-lts.Need-returns-3 (
   children-of-reads.Learnt,
   node-bound-reads.Asked,
   node-bound-reads.Learnt,
-  bound-at-below t,
-  bound-at.Post,
+  running-bound-below t,
+  running-bound.Post,
   tree-end-reads.Asked,
   tree-end-reads.Learnt,
-) (bound-at-at t) bound-at.Post
-bound-at-returns-3 t c =
+) (running-bound-at t) running-bound.Post
+running-bound-returns-3 t c =
     let a = c .before .before .before .before .before .before .before .before .before .before .args in
     c .node-bound2 .ensures ∙ one-number (bounds (tablesOf (a .set .now))) (a .plan .now) (a .i) (omega arith) _ (c .before .before .before .before .before .node-at .ensures) _ (c .before .before .before .before .children-of .ensures)
-    (c .before .if3 .taken) _ (c .before .before .bound-at .ensures)
+    (c .before .if3 .taken) _ (c .before .before .running-bound .ensures)
 
--- src/bound.rt:65:28
-bound-at-add-tree-end : (t : ℕ) → bound-at-lts.Need-add-tree-end (
+-- src/bound.rt:87:28
+running-bound-add-tree-end : (t : ℕ) → running-bound-lts.Need-add-tree-end (
   nodes-of-reads.Asked,
   nodes-of-reads.Learnt,
   node-at-reads.Asked,
@@ -217,15 +217,15 @@ bound-at-add-tree-end : (t : ℕ) → bound-at-lts.Need-add-tree-end (
   children-of-reads.Learnt,
   node-bound-reads.Asked,
   node-bound-reads.Learnt,
-  bound-at-below t,
-  bound-at.Post,
+  running-bound-below t,
+  running-bound.Post,
   tree-end-reads.Asked,
   tree-end-reads.Learnt,
-) (bound-at-at t) bound-at.Post
-bound-at-add-tree-end t c = omega arith
+) (running-bound-at t) running-bound.Post
+running-bound-add-tree-end t c = omega arith
 
--- src/bound.rt:65:9
-bound-at-tree-end-requires : (t : ℕ) → bound-at-lts.Need-tree-end-requires (
+-- src/bound.rt:87:9
+running-bound-tree-end-requires : (t : ℕ) → running-bound-lts.Need-tree-end-requires (
   nodes-of-reads.Asked,
   nodes-of-reads.Learnt,
   node-at-reads.Asked,
@@ -234,15 +234,15 @@ bound-at-tree-end-requires : (t : ℕ) → bound-at-lts.Need-tree-end-requires (
   children-of-reads.Learnt,
   node-bound-reads.Asked,
   node-bound-reads.Learnt,
-  bound-at-below t,
-  bound-at.Post,
+  running-bound-below t,
+  running-bound.Post,
   tree-end-reads.Asked,
   tree-end-reads.Learnt,
-) (bound-at-at t) bound-at.Post
-bound-at-tree-end-requires t c κs = tt
+) (running-bound-at t) running-bound.Post
+running-bound-tree-end-requires t c κs = tt
 
--- src/bound.rt:66:9
-bound-at-bound-at-requires-2 : (t : ℕ) → bound-at-lts.Need-bound-at-requires-2 (
+-- src/bound.rt:88:9
+running-bound-running-bound-requires-2 : (t : ℕ) → running-bound-lts.Need-running-bound-requires-2 (
   nodes-of-reads.Asked,
   nodes-of-reads.Learnt,
   node-at-reads.Asked,
@@ -251,15 +251,15 @@ bound-at-bound-at-requires-2 : (t : ℕ) → bound-at-lts.Need-bound-at-requires
   children-of-reads.Learnt,
   node-bound-reads.Asked,
   node-bound-reads.Learnt,
-  bound-at-below t,
-  bound-at.Post,
+  running-bound-below t,
+  running-bound.Post,
   tree-end-reads.Asked,
   tree-end-reads.Learnt,
-) (bound-at-at t) bound-at.Post
-bound-at-bound-at-requires-2 t c κs = omega arith
+) (running-bound-at t) running-bound.Post
+running-bound-running-bound-requires-2 t c κs = omega arith
 
--- src/bound.rt:67:5
-bound-at-node-bound-requires-3 : (t : ℕ) → bound-at-lts.Need-node-bound-requires-3 (
+-- src/bound.rt:89:5
+running-bound-node-bound-requires-3 : (t : ℕ) → running-bound-lts.Need-node-bound-requires-3 (
   nodes-of-reads.Asked,
   nodes-of-reads.Learnt,
   node-at-reads.Asked,
@@ -268,15 +268,15 @@ bound-at-node-bound-requires-3 : (t : ℕ) → bound-at-lts.Need-node-bound-requ
   children-of-reads.Learnt,
   node-bound-reads.Asked,
   node-bound-reads.Learnt,
-  bound-at-below t,
-  bound-at.Post,
+  running-bound-below t,
+  running-bound.Post,
   tree-end-reads.Asked,
   tree-end-reads.Learnt,
-) (bound-at-at t) bound-at.Post
-bound-at-node-bound-requires-3 t c κs = omega arith
+) (running-bound-at t) running-bound.Post
+running-bound-node-bound-requires-3 t c κs = omega arith
 
--- src/bound.rt:50:1
-bound-at-returns-4 : (t : ℕ) → bound-at-lts.Need-returns-4 (
+-- src/bound.rt:72:1
+running-bound-returns-4 : (t : ℕ) → running-bound-lts.Need-returns-4 (
   nodes-of-reads.Asked,
   nodes-of-reads.Learnt,
   node-at-reads.Asked,
@@ -285,18 +285,18 @@ bound-at-returns-4 : (t : ℕ) → bound-at-lts.Need-returns-4 (
   children-of-reads.Learnt,
   node-bound-reads.Asked,
   node-bound-reads.Learnt,
-  bound-at-below t,
-  bound-at.Post,
+  running-bound-below t,
+  running-bound.Post,
   tree-end-reads.Asked,
   tree-end-reads.Learnt,
-) (bound-at-at t) bound-at.Post
-bound-at-returns-4 t c =
+) (running-bound-at t) running-bound.Post
+running-bound-returns-4 t c =
     let a = c .before .before .before .before .before .before .before .before .before .before .before .before .args in
     c .node-bound3 .ensures ∙ two-number (bounds (tablesOf (a .set .now))) (a .plan .now) (a .i) (omega arith) _ (c .before .before .before .before .before .before .before .node-at .ensures) _ (c .before .before .before .before .before .before .children-of .ensures)
-    (c .before .before .before .before .before .if2 .left) (c .before .before .before .if3 .left) _ _ _ (c .before .before .before .before .bound-at .ensures) (c .before .before .tree-end .ensures) (c .before .bound-at2 .ensures)
+    (c .before .before .before .before .before .if2 .left) (c .before .before .before .if3 .left) _ _ _ (c .before .before .before .before .running-bound .ensures) (c .before .before .tree-end .ensures) (c .before .running-bound2 .ensures)
 
-pub +bound-at-spec : {M : Type 1} → statement M
-+bound-at-spec = close μ-bound-at λ t. bound-at-lts.spec (
+pub +running-bound-spec : {M : Type 1} → statement M
++running-bound-spec = close μ-running-bound λ t. running-bound-lts.spec (
   nodes-of-reads.Asked,
   nodes-of-reads.Learnt,
   node-at-reads.Asked,
@@ -305,25 +305,25 @@ pub +bound-at-spec : {M : Type 1} → statement M
   children-of-reads.Learnt,
   node-bound-reads.Asked,
   node-bound-reads.Learnt,
-  bound-at-below t,
-  bound-at.Post,
+  running-bound-below t,
+  running-bound.Post,
   tree-end-reads.Asked,
   tree-end-reads.Learnt,
 )
-    (bound-at-at t)
-    bound-at.Post
-    (bound-at-nodes-of-requires t)
-    (bound-at-returns t)
-    (bound-at-node-at-requires t)
-    (bound-at-children-of-requires t)
-    (bound-at-node-bound-requires t)
-    (bound-at-returns-2 t)
-    (bound-at-add-bound-at t)
-    (bound-at-bound-at-requires t)
-    (bound-at-node-bound-requires-2 t)
-    (bound-at-returns-3 t)
-    (bound-at-add-tree-end t)
-    (bound-at-tree-end-requires t)
-    (bound-at-bound-at-requires-2 t)
-    (bound-at-node-bound-requires-3 t)
-    (bound-at-returns-4 t)
+    (running-bound-at t)
+    running-bound.Post
+    (running-bound-nodes-of-requires t)
+    (running-bound-returns t)
+    (running-bound-node-at-requires t)
+    (running-bound-children-of-requires t)
+    (running-bound-node-bound-requires t)
+    (running-bound-returns-2 t)
+    (running-bound-add-running-bound t)
+    (running-bound-running-bound-requires t)
+    (running-bound-node-bound-requires-2 t)
+    (running-bound-returns-3 t)
+    (running-bound-add-tree-end t)
+    (running-bound-tree-end-requires t)
+    (running-bound-running-bound-requires-2 t)
+    (running-bound-node-bound-requires-3 t)
+    (running-bound-returns-4 t)
