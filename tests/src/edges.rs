@@ -40,9 +40,17 @@ pub fn edges() -> Vec<(&'static str, Input)> {
     let three = cross(cross(scan(0, 0), scan(0, 1)), scan(0, 2));
     add("Cross 16 x 16 x 16", vec![sized(1, 16)], three);
     add("Cross 1,000 x 0", vec![sized(1, 1000), sized(2, 0)], cross(scan(0, 0), scan(1, 1)));
+    add("Cross 0 x 1,000", vec![sized(1, 0), sized(2, 1000)], cross(scan(0, 0), scan(1, 1)));
+    let limit = || cross(scan(0, 0), scan(0, 1));
+    add("Cross 64 x 64 x 1", vec![sized(1, 64)], cross(limit(), Plan::Unit));
+    add("Cross 1 x (64 x 64)", vec![sized(1, 64)], cross(Plan::Unit, limit()));
+    add("Cross 0 x (64 x 64)", vec![sized(1, 64), sized(2, 0)], cross(scan(1, 2), limit()));
     add("Each of 9 with an empty inner plan", vec![sized(1, 9), sized(2, 0)], each(scan(0, 0), scan(1, 1)));
+    add("Each of 64 x 64 with an empty inner plan", vec![sized(1, 64), sized(2, 0)], each(limit(), scan(1, 2)));
     add("Each of none with 5", vec![sized(1, 0), sized(2, 5)], each(scan(0, 0), scan(1, 1)));
+    add("Each of none with 64 x 64", vec![sized(1, 64), sized(2, 0)], each(scan(1, 2), limit()));
     add("32 columns", vec![sized(16, 2)], cross(scan(0, 0), scan(0, 16)));
+    add("32 columns of 64 x 64 rows", vec![sized(16, 64)], cross(scan(0, 0), scan(0, 16)));
     let fold_32 = fold(Aggregate::Count, 255, ALWAYS, cross(scan(0, 0), scan(1, 16)), Plan::Unit);
     add("32 columns by a Fold", vec![sized(16, 2), sized(15, 1)], fold_32);
     let each_32 = each(scan(0, 0), scan(0, 200));

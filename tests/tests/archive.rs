@@ -2,10 +2,15 @@
 
 #[cfg(archive)]
 mod held {
+    use second::archive;
+    use second::build::*;
+    use second::calls::need_of;
     use second::cases::cases;
     use second::edges::edges;
+    use second::generate::Input;
     use second::held::{hold, hold_seeds, Counts};
     use second::random::Random;
+    use second::tables::Table;
 
     /// How many random inputs are tried.
     const INPUTS: u64 = 15_000;
@@ -38,6 +43,50 @@ mod held {
             hold(&mut random, &case.set, &case.plan, &mut counts).expect("no difference");
         }
         print!("{}", counts.lines());
+    }
+
+    /// Row counts around the factors of 4,096, of 4,097 and of 65,536, and the ends.
+    const HEIGHTS: [usize; 14] = [0, 1, 2, 15, 16, 17, 64, 65, 241, 255, 256, 257, 999, 1000];
+
+    /// Every three of them, as tables of one column.
+    fn three_tables() -> impl Iterator<Item = Vec<Table>> {
+        let count = HEIGHTS.len();
+        let tables = move |i| [i, i / count, i / count / count].map(|i| sized(1, HEIGHTS[i % count])).to_vec();
+        (0..count.pow(3)).map(tables)
+    }
+
+    /// Whether an input is accepted, after its number was held against the second evaluator, and, where it is, its need.
+    fn accepts(random: &mut Random, input: &Input) -> bool {
+        let (set, plan) = (input.set_bytes(), input.plan_bytes());
+        let mut number = |cells| archive::report(random, &set, &plan, 0, cells).expect("no stray write").0 & 0xff;
+        let need = need_of(&set, &plan);
+        match need {
+            Err(refusal) => assert_eq!(number(0), u64::from(refusal)),
+            Ok(need) => {
+                assert_eq!(number(need as usize - 1), 16);
+                assert!([0, 15].contains(&number(need as usize)));
+            }
+        }
+        need.is_ok()
+    }
+
+    #[test]
+    fn k5_products_of_three_row_counts_are_judged_as_by_the_second_evaluator() {
+        let mut random = Random::new(6);
+        let mut counts = [0, 0];
+        for tables in three_tables() {
+            for plan in [
+                cross(cross(scan(0, 0), scan(1, 1)), scan(2, 2)),
+                cross(scan(0, 0), cross(scan(1, 1), scan(2, 2))),
+                each(each(scan(0, 0), scan(1, 1)), scan(2, 2)),
+                each(scan(0, 0), each(scan(1, 1), scan(2, 2))),
+            ] {
+                let input = Input { tables: tables.clone(), plan };
+                counts[usize::from(accepts(&mut random, &input))] += 1;
+            }
+        }
+        println!("products of three row counts: refused {}, accepted {}", counts[0], counts[1]);
+        assert!(counts.iter().all(|&count| count > 2_000), "{counts:?}");
     }
 }
 

@@ -362,6 +362,63 @@ fn a_bound_that_grows_over_the_limit_keeps_a_rule_from_fitting() {
     assert_eq!(stay_position(&plan, 1, &[keyed(3), keyed(64), other]), Some(3));
 }
 
+/// Tables of one column with these many rows.
+fn of_heights(heights: &[usize]) -> Vec<Table> {
+    heights.iter().map(|&height| sized(1, height)).collect()
+}
+
+#[test]
+fn k5_a_bound_is_judged_by_the_exact_product() {
+    let two = [cross(scan(0, 0), scan(1, 1)), each(scan(0, 0), scan(1, 1))];
+    let three = [
+        cross(cross(scan(0, 0), scan(1, 1)), scan(2, 2)),
+        cross(scan(0, 0), cross(scan(1, 1), scan(2, 2))),
+        each(cross(scan(0, 0), scan(1, 1)), scan(2, 2)),
+        each(scan(0, 0), cross(scan(1, 1), scan(2, 2))),
+    ];
+    // 4,096, and 17 x 241 = 4,097; then 65,536, 65,792 and 1,000,000, which are 0, 256 and 16,960 in 16 bits.
+    for plan in &two {
+        assert_eq!(refusal(&of_heights(&[64, 64]), plan), None);
+        for heights in [[17, 241], [256, 256], [257, 256], [1000, 1000]] {
+            assert_eq!(refusal(&of_heights(&heights), plan), Some(14), "{heights:?}");
+        }
+    }
+    for plan in &three {
+        assert_eq!(refusal(&of_heights(&[16, 16, 16]), plan), None);
+        assert_eq!(refusal(&of_heights(&[64, 64, 16]), plan), Some(14));
+        assert_eq!(refusal(&of_heights(&[16, 64, 64]), plan), Some(14));
+    }
+}
+
+#[test]
+fn k5_a_factor_of_0_hides_no_bound_below_it() {
+    let (product, inner) = (cross(scan(0, 0), scan(1, 1)), each(scan(0, 0), scan(1, 1)));
+    assert_eq!(rows(&of_heights(&[0, 1000]), &product).len(), 0);
+    assert_eq!(rows(&of_heights(&[1000, 0]), &product).len(), 0);
+    assert_eq!(rows(&of_heights(&[0, 1000]), &inner).len(), 0);
+    // An Each counts an inner bound of 0 as 1.
+    assert_eq!(rows(&of_heights(&[1000, 0]), &inner).len(), 1000);
+    let over_none = each(cross(scan(0, 0), scan(1, 1)), scan(2, 2));
+    assert_eq!(rows(&of_heights(&[64, 64, 0]), &over_none).len(), 4096);
+    assert_eq!(refusal(&of_heights(&[65, 64, 0]), &over_none), Some(14));
+    let tables = of_heights(&[0, 65, 64]);
+    let tall = || cross(scan(1, 1), scan(2, 2));
+    for plan in [cross(scan(0, 0), tall()), cross(tall(), scan(0, 0)), each(scan(0, 0), tall())] {
+        assert_eq!(refusal(&tables, &plan), Some(14));
+    }
+}
+
+#[test]
+fn k5_12_and_13_in_the_whole_plan_come_before_14() {
+    let tables = [sized(1, 256), sized(16, 1)];
+    let tall = || cross(scan(0, 0), scan(0, 1));
+    let wide = cross(cross(scan(1, 10), scan(1, 30)), scan(0, 2));
+    assert_eq!(refusal(&tables, &some(ALWAYS, tall(), Plan::Unit)), Some(14));
+    assert_eq!(refusal(&tables, &some(ALWAYS, tall(), wide.clone())), Some(13));
+    let unseen = select(number_test(99, Equal, 1), wide);
+    assert_eq!(refusal(&tables, &some(ALWAYS, tall(), unseen)), Some(12));
+}
+
 /// The note for a Semi, an Anti and a Pair, the same for all three, where e's cells and the right keys are these. Without a note
 /// their rules fit: nothing but the sequences can keep them from it.
 fn note(cells: &[i32], right_keys: &[i32]) -> Option<usize> {

@@ -561,6 +561,17 @@ fn bound_faults() -> Vec<Fault> {
             let (one, other) = (draft.fresh(1)?, draft.fresh(1)?);
             Some(cross(draft.scan(1, 17)?.0, cross(scan(table, one), scan(table, other))))
         }),
+        // 65,536 is 0 in 16 bits, and 65,792 is 256.
+        beside(14, "Cross 64 x 64 x 16", |draft| {
+            let (left, right, _) = tall(draft, 64, 64)?;
+            Some(cross(cross(left, right), draft.scan(1, 16)?.0))
+        }),
+        beside(14, "Each 16 x (64 x 64)", |draft| {
+            let (left, right, _) = tall(draft, 64, 64)?;
+            Some(each(draft.scan(1, 16)?.0, cross(left, right)))
+        }),
+        beside(14, "Cross 256 x 256", |draft| tall(draft, 256, 256).map(|(left, right, _)| cross(left, right))),
+        beside(14, "Each 257 x 256", |draft| tall(draft, 257, 256).map(|(left, inner, _)| each(left, inner))),
         beside(14, "Cross 65 x 64 x 0", |draft| {
             let (left, right, _) = tall(draft, 65, 64)?;
             Some(cross(cross(left, right), draft.scan(1, 0)?.0))
@@ -568,6 +579,10 @@ fn bound_faults() -> Vec<Fault> {
         beside(14, "Cross 0 x (65 x 64)", |draft| {
             let (left, right, _) = tall(draft, 65, 64)?;
             Some(cross(draft.scan(1, 0)?.0, cross(left, right)))
+        }),
+        beside(14, "an Each of none with 65 x 64", |draft| {
+            let (left, right, _) = tall(draft, 65, 64)?;
+            Some(each(draft.scan(1, 0)?.0, cross(left, right)))
         }),
         beside(14, "a Distinct over Cross 65 x 64", |draft| {
             let (left, right, first) = tall(draft, 65, 64)?;
