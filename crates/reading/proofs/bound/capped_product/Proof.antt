@@ -6,19 +6,19 @@ use Rattle.reading.proofs.bound.capped_product.Reads as reads
 use Rattle.reading.proofs.bound.capped_product.Lts as lts
 use Rattle.reading.proofs.bound.product_low.Reads as product-low-reads
 
--- src/bound.rt:41:8
+-- src/bound.rt:42:8
 product-low-requires : tie.Need-product-low-requires
 product-low-requires c κs = search needs
 
--- src/bound.rt:42:19
+-- src/bound.rt:43:19
 mul-product : tie.Need-mul-product
 mul-product c = search low-fits
 
--- src/bound.rt:37:1
+-- src/bound.rt:38:1
 returns : tie.Need-returns
 returns c = search low-capped
 
--- src/bound.rt:37:1
+-- src/bound.rt:38:1
 returns-2 : tie.Need-returns-2
 returns-2 c = search high-capped
 

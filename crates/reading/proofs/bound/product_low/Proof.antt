@@ -7,15 +7,15 @@ use Rattle.reading.proofs.bound.product_low.Tie as tie
 use Rattle.reading.proofs.bound.product_low.Reads as reads
 use Rattle.reading.proofs.bound.product_low.Lts as lts
 
--- src/bound.rt:31:9
+-- src/bound.rt:32:9
 returns : tie.Need-returns
 returns c = rw (c .if1 .taken, mul-zero)
 
--- src/bound.rt:33:14
+-- src/bound.rt:34:14
 div-result : tie.Need-div-result
 div-result c = search needs
 
--- src/bound.rt:27:1
+-- src/bound.rt:28:1
 returns-2 : tie.Need-returns-2
 returns-2 c = product-test _ (c .before .args .second) _ (omega arith)
 
