@@ -55,7 +55,7 @@ mod held {
         (0..count.pow(3)).map(tables)
     }
 
-    /// Whether an input is accepted, after its number was held against the second evaluator, and, where it is, its need.
+    /// Holds an input's refusal, or its need where there is none, against the second evaluator. Whether the input is accepted.
     fn accepts(random: &mut Random, input: &Input) -> bool {
         let (set, plan) = (input.set_bytes(), input.plan_bytes());
         let mut number = |cells| archive::report(random, &set, &plan, 0, cells).expect("no stray write").0 & 0xff;

@@ -1,5 +1,5 @@
-// Refusal 14: the row bound of a node, held in 16 bits. 4,097 stands for every number above 4,096, and a product is tested before it is
-// formed.
+// Refusal 14: the row bound of a node, held in 16 bits. 4,097 stands for every number above 4,096.
+// A product is tested before it is formed.
 ghost use mathlib.Core.Path.{_≡_};
 ghost use Prim.Native.Nat.{_*_, _≤_, min};
 ghost use lib.Dec.{leb};

@@ -548,42 +548,32 @@ fn tall(draft: &mut Draft, one: usize, other: usize) -> Option<(Plan, Plan, u8)>
     Some((left, right, first))
 }
 
+/// The Cross of two such Scans.
+fn product(draft: &mut Draft, one: usize, other: usize) -> Option<Plan> {
+    tall(draft, one, other).map(|(left, right, _)| cross(left, right))
+}
+
 /// Refusal 14.
 fn bound_faults() -> Vec<Fault> {
     vec![
-        beside(14, "Cross 65 x 64", |draft| tall(draft, 65, 64).map(|(left, right, _)| cross(left, right))),
-        beside(14, "Cross 64 x 65", |draft| tall(draft, 64, 65).map(|(left, right, _)| cross(left, right))),
-        beside(14, "Cross 17 x 241", |draft| tall(draft, 17, 241).map(|(left, right, _)| cross(left, right))),
+        beside(14, "Cross 65 x 64", |draft| product(draft, 65, 64)),
+        beside(14, "Cross 64 x 65", |draft| product(draft, 64, 65)),
+        beside(14, "Cross 17 x 241", |draft| product(draft, 17, 241)),
         beside(14, "Each 65 x 64", |draft| tall(draft, 65, 64).map(|(left, inner, _)| each(left, inner))),
-        beside(14, "Cross 1,000 x 5", |draft| tall(draft, 1000, 5).map(|(left, right, _)| cross(left, right))),
+        beside(14, "Cross 1,000 x 5", |draft| product(draft, 1000, 5)),
         beside(14, "Cross 17 x 16 x 16", |draft| {
             let table = draft.table(1, 16)?;
             let (one, other) = (draft.fresh(1)?, draft.fresh(1)?);
             Some(cross(draft.scan(1, 17)?.0, cross(scan(table, one), scan(table, other))))
         }),
         // 65,536 is 0 in 16 bits, and 65,792 is 256.
-        beside(14, "Cross 64 x 64 x 16", |draft| {
-            let (left, right, _) = tall(draft, 64, 64)?;
-            Some(cross(cross(left, right), draft.scan(1, 16)?.0))
-        }),
-        beside(14, "Each 16 x (64 x 64)", |draft| {
-            let (left, right, _) = tall(draft, 64, 64)?;
-            Some(each(draft.scan(1, 16)?.0, cross(left, right)))
-        }),
-        beside(14, "Cross 256 x 256", |draft| tall(draft, 256, 256).map(|(left, right, _)| cross(left, right))),
+        beside(14, "Cross 64 x 64 x 16", |draft| Some(cross(product(draft, 64, 64)?, draft.scan(1, 16)?.0))),
+        beside(14, "Each 16 x (64 x 64)", |draft| Some(each(draft.scan(1, 16)?.0, product(draft, 64, 64)?))),
+        beside(14, "Cross 256 x 256", |draft| product(draft, 256, 256)),
         beside(14, "Each 257 x 256", |draft| tall(draft, 257, 256).map(|(left, inner, _)| each(left, inner))),
-        beside(14, "Cross 65 x 64 x 0", |draft| {
-            let (left, right, _) = tall(draft, 65, 64)?;
-            Some(cross(cross(left, right), draft.scan(1, 0)?.0))
-        }),
-        beside(14, "Cross 0 x (65 x 64)", |draft| {
-            let (left, right, _) = tall(draft, 65, 64)?;
-            Some(cross(draft.scan(1, 0)?.0, cross(left, right)))
-        }),
-        beside(14, "an Each of none with 65 x 64", |draft| {
-            let (left, right, _) = tall(draft, 65, 64)?;
-            Some(each(draft.scan(1, 0)?.0, cross(left, right)))
-        }),
+        beside(14, "Cross 65 x 64 x 0", |draft| Some(cross(product(draft, 65, 64)?, draft.scan(1, 0)?.0))),
+        beside(14, "Cross 0 x (65 x 64)", |draft| Some(cross(draft.scan(1, 0)?.0, product(draft, 65, 64)?))),
+        beside(14, "an Each of none with 65 x 64", |draft| Some(each(draft.scan(1, 0)?.0, product(draft, 65, 64)?))),
         beside(14, "a Distinct over Cross 65 x 64", |draft| {
             let (left, right, first) = tall(draft, 65, 64)?;
             Some(distinct(&[first], cross(left, right)))
@@ -597,10 +587,7 @@ fn bound_faults() -> Vec<Fault> {
             let (left, inner, _) = tall(draft, 65, 64)?;
             Some(each(left, select(NEVER, inner)))
         }),
-        beside(14, "Cross 65 x 64 in an inner plan", |draft| {
-            let (left, right, _) = tall(draft, 65, 64)?;
-            Some(some(ALWAYS, Plan::Unit, cross(left, right)))
-        }),
+        beside(14, "Cross 65 x 64 in an inner plan", |draft| Some(some(ALWAYS, Plan::Unit, product(draft, 65, 64)?))),
         beside(14, "Cross of eight tables of 1,000 rows", |draft| {
             let table = draft.table(1, 1000)?;
             let mut plan = scan(table, draft.fresh(1)?);
