@@ -1,6 +1,7 @@
 -- The examples, the laws of the definitions, and demand 3.
 pub mod Lists
 pub mod Cells
+pub mod Aggregates
 pub mod Free
 pub mod Change
 pub mod Places

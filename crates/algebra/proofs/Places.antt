@@ -45,7 +45,7 @@ size-positive (one u p) = omega arith
 size-positive (two b e f) = omega arith
 
 -- ---- what is seen at a place is what is seen of the subtree there
-next-less : (i n : ℕ) → ltb i n ≡ ltb (suc i) (suc n)
+pub next-less : (i n : ℕ) → ltb i n ≡ ltb (suc i) (suc n)
 next-less i n =
     (elim (ltb i n) as (λ b. ltb i n ≡ b → b ≡ ltb (suc i) (suc n)) [ true ↦ λ e. sym (omega (arith, ltb-true, lt-ltb)) | false ↦ λ e. sym (omega (arith, ltb-false, le-ltb)) ]) refl
 

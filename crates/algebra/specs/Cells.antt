@@ -1,7 +1,7 @@
 -- Cells, comparisons and aggregates (docs/DEFINITION.md, "Cells", "Tests and comparisons" and "Aggregates"). Definitions only.
 -- A cell is held as its signed 32-bit code plus 2^31, so that the order of cells is the order of codes.
 use Prim.Native.Nat.{ℕ, _+_, _*_, _-_, min, max}
-use mathlib.Core.Bool.{Bool, not, cond, _&&_}
+use mathlib.Core.Bool.{Bool, true, false, not, cond, _&&_}
 use mathlib.Core.List.{List, [], _∷_, foldr}
 use lib.Dec.{eqb, ltb, leb}
 use lib.ListN.{length}
@@ -73,7 +73,17 @@ summary least [] = blank
 summary least (x ∷ xs) = foldr min x xs
 summary greatest xs = foldr max blank xs
 
--- the aggregate of the measured cells of the rows that pass: blanks are skipped, and an off-scale cell makes it off scale
+-- a sum needs every cell; the least and the greatest skip blanks
+abbrev pub needsAll : Summary → Bool
+needsAll sum = true
+needsAll least = false
+needsAll greatest = false
+
+abbrev pub isBlank : ℕ → Bool
+isBlank x = eqb x blank
+
+-- the aggregate of the measured cells of the rows that pass: off scale where one of them is; else blank where one is blank and every cell is needed,
+-- whatever the numbers come to; else the summary of the numbers
 unfoldable pub aggregate : Aggregate → List ℕ → ℕ
 aggregate count xs = origin + length xs
-aggregate (over k c) xs = cond (any (eqb offScale) xs) offScale (summary k (filter (λ x. not (eqb x blank)) xs))
+aggregate (over k c) xs = cond (any (eqb offScale) xs) offScale (cond (needsAll k && any isBlank xs) blank (summary k (filter (λ x. not (isBlank x)) xs)))

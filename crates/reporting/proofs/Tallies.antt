@@ -1,22 +1,23 @@
 -- Adding a cell keeps what a tally says, and every aggregate is read off it. Assumes nothing.
 use Prim.Native.Nat.{ℕ, suc, _+_, _*_, _≤_, min, max}
 use mathlib.Core.Path.{_≡_, refl, sym, ap, _∙_, subst}
-use mathlib.Core.Bool.{Bool, true, false, not, cond, _||_}
+use mathlib.Core.Bool.{Bool, true, false, not, cond, _&&_, _||_}
 use mathlib.Core.List.{List, [], _∷_, _++_, map, foldr, append-nil}
 use native.Mathlib.Numerals.{add-one}
 use native.Mathlib.Nat.{add-comm, add-assoc, min-comm, max-comm}
 use native.Mathlib.Omega.{arith}
-use lib.Dec.{eqb}
+use lib.Dec.{eqb, ltb}
 use lib.ListN.{length, take, drop, length-append, length-map}
-use borrow.Author.Tests.{eqb-true, ne-eqb}
+use borrow.Author.Tests.{eqb-true, ne-eqb, lt-ltb}
 use Rattle.algebra.specs.Lists.{filter, any, total}
-use Rattle.algebra.specs.Cells.{Aggregate, count, over, sum, least, greatest, blank, offScale, origin, sumOf, summary, aggregate}
+use Rattle.algebra.specs.Cells.{Aggregate, count, over, Summary, sum, least, greatest, blank, offScale, origin, isBlank, needsAll, sumOf, summary, aggregate}
 use Rattle.algebra.specs.Plans.{Row, Env, bind, measure, gather}
 use Rattle.algebra.specs.Places.{Operator}
 use Rattle.algebra.proofs.Lists.{filter-length}
 use Rattle.algebra.proofs.Cells.{eqb-sym}
+use Rattle.algebra.proofs.Places.{next-less}
 use Rattle.reporting.specs.Rows.{chunk, passing, aggregateIn, gathered}
-use Rattle.reporting.specs.Tallies.{measured, notBlank, Tallies, lesser, added, tallied, rowAdded}
+use Rattle.reporting.specs.Tallies.{measured, notBlank, Tallies, lesser, added, tallySummary, tallied, rowAdded}
 use Rattle.reporting.specs.declared.gather.Tally.{Tally}
 use Rattle.reporting.proofs.Chunks.{chunk-snoc, length-chunk}
 
@@ -123,13 +124,27 @@ added-cell t x low high off h l g o =
     let p : off ≡ (eqb offScale x || t .off) = o ∙ ap (λ (b : Bool). b || t .off) (eqb-sym x offScale) in
     λ j. record { rows = t .rows + 1; numbers = n j; sum = t .sum + x; least = m j; greatest = g j; off = p j }
 
+-- there are fewer numbers than cells where one is blank
+fewer-numbers : (xs : List ℕ) → ltb (length (notBlank xs)) (length xs) ≡ any isBlank xs
+fewer-numbers [] = refl
+fewer-numbers (x ∷ xs) =
+    elim (isBlank x) as (λ b. ltb (length (cond (not b) (x ∷ notBlank xs) (notBlank xs))) (suc (length xs)) ≡ (b || any isBlank xs)) [
+      | true ↦ lt-ltb (length (notBlank xs)) (suc (length xs)) (omega (arith, filter-length (λ y. not (isBlank y)) xs))
+      | false ↦ sym (next-less (length (notBlank xs)) (length xs)) ∙ fewer-numbers xs
+    ]
+
 -- every aggregate is read off it
 pub tallies-read : (g : Aggregate) (xs : List ℕ) (t : Tally) → Tallies xs t → aggregate g xs ≡ tallied g t
 unfolding aggregate tallied
 tallies-read count xs t says = sym (ap (λ (n : ℕ). origin + n) (says .counted))
-tallies-read (over sum c) xs t says = sym (λ j. cond (says .scaled j) offScale (sumOf (says .numbered j) (says .summed j)))
-tallies-read (over least c) xs t says = sym (λ j. cond (says .scaled j) offScale (says .lowest j))
-tallies-read (over greatest c) xs t says = sym (λ j. cond (says .scaled j) offScale (says .highest j))
+tallies-read (over k c) xs t says =
+    let missing : ltb (t .numbers) (t .rows) ≡ any isBlank xs = (λ j. ltb (says .numbered j) (says .counted j)) ∙ fewer-numbers xs in
+    sym (λ j. cond (says .scaled j) offScale (cond (needsAll k && missing j) blank (summary-read k j)))
+  where
+    summary-read : (k : Summary) → tallySummary k t ≡ summary k (notBlank xs)
+    summary-read sum = λ j. sumOf (says .numbered j) (says .summed j)
+    summary-read least = says .lowest
+    summary-read greatest = says .highest
 
 -- ---- rows
 module _ (op : Operator) (ds : List ℕ) (env : Env) where

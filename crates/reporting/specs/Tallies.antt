@@ -1,12 +1,12 @@
 -- A tally: what the measured cells of the rows that passed come to, for all four aggregates (docs/DEFINITION.md, "Aggregates"). Definitions only.
 use Prim.Native.Nat.{ℕ, _+_, _*_, _≤_, min, max}
-use mathlib.Core.Bool.{not, cond, _||_}
+use mathlib.Core.Bool.{not, cond, _&&_, _||_}
 use mathlib.Core.Path.{_≡_}
 use mathlib.Core.List.{List, map}
-use lib.Dec.{eqb}
+use lib.Dec.{eqb, ltb}
 use lib.ListN.{length}
 use Rattle.algebra.specs.Lists.{filter, any, total}
-use Rattle.algebra.specs.Cells.{Aggregate, count, over, Summary, sum, least, greatest, blank, offScale, origin, sumOf, summary}
+use Rattle.algebra.specs.Cells.{Aggregate, count, over, Summary, sum, least, greatest, blank, offScale, origin, isBlank, needsAll, sumOf, summary}
 use Rattle.algebra.specs.Plans.{Row, Env, bind, measure}
 use Rattle.algebra.specs.Places.{Operator}
 use Rattle.reporting.specs.Rows.{passing, aggregateIn}
@@ -17,7 +17,7 @@ unfoldable pub measured : Operator → List ℕ → Env → List Row → List �
 measured op ds env rs = map (λ r. measure (aggregateIn op) (bind ds r env)) (filter (λ r. passing op (bind ds r env)) rs)
 
 abbrev pub notBlank : List ℕ → List ℕ
-notBlank xs = filter (λ x. not (eqb x blank)) xs
+notBlank xs = filter (λ x. not (isBlank x)) xs
 
 -- what a tally says of the measured cells xs
 pub record Tallies (xs : List ℕ) (t : Tally) : Type 0 where
@@ -54,9 +54,10 @@ tallySummary sum t = sumOf (t .numbers) (t .sum)
 tallySummary least t = t .least
 tallySummary greatest t = t .greatest
 
+-- a cell was blank where there are fewer numbers than rows
 unfoldable pub tallied : Aggregate → Tally → ℕ
 tallied count t = origin + t .rows
-tallied (over k c) t = cond (t .off) offScale (tallySummary k t)
+tallied (over k c) t = cond (t .off) offScale (cond (needsAll k && ltb (t .numbers) (t .rows)) blank (tallySummary k t))
 
 -- a tally after one row: its measured cell is added where the row passes, env the environment inside it
 unfoldable pub rowAdded : Operator → Env → Tally → Tally

@@ -1,10 +1,11 @@
 // The four aggregates.
 ghost use mathlib.Core.Path.{_≡_};
-ghost use mathlib.Core.Bool.{_||_};
+ghost use mathlib.Core.Bool.{cond, _||_};
 ghost use mathlib.Core.List.{[]};
 ghost use Prim.Native.Nat.{ℕ, _*_, _≤_, _<_, max};
+ghost use lib.Dec.{ltb};
 ghost use lib.ListN.{length};
-ghost use Rattle.algebra.specs.Cells.{sumOf};
+ghost use Rattle.algebra.specs.Cells.{blank, sumOf};
 ghost use Rattle.algebra.specs.Plans.{bind, measure};
 ghost use Rattle.reading.specs.Tree.{aggregateOf, operatorOf};
 ghost use Rattle.reporting.specs.Rows.{chunk, envOf, aggregateIn, gathered};
@@ -58,11 +59,15 @@ fn either(a: bool, b: bool) -> bool
     b
 }
 
-// The cell that n numbers, whose cells add up to a sum, come to: off scale where the exact total leaves the range.
-fn sum_cell(numbers: usize, sum: u64) -> u32
+// The cell of a sum over so many rows, of which so many are not blank and add up to the sum: blank where one is blank; else off scale
+// where the exact total leaves the range.
+fn sum_cell(rows: usize, numbers: usize, sum: u64) -> u32
     requires { ⌜ (numbers ≤ 4096) × (sum ≤ 17592186040320) ⌝ }
-    ensures { λ r. ⌜ r ≡ sumOf numbers sum ⌝ }
+    ensures { λ r. ⌜ r ≡ cond (ltb numbers rows) blank (sumOf numbers sum) ⌝ }
 {
+    if numbers < rows {
+        return 0;
+    }
     let origins = (numbers as u64) * 2147483648;
     if sum + 2000000000 < origins {
         return 4294967295;
@@ -125,7 +130,7 @@ impl Tally {
             return 4294967295;
         }
         if code == 1 {
-            return sum_cell(self.numbers, self.sum);
+            return sum_cell(self.rows, self.numbers, self.sum);
         }
         if code == 2 {
             return self.least;

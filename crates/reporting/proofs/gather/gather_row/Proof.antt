@@ -15,11 +15,11 @@ use Rattle.reporting.proofs.gather.Tally.add.Reads as add-reads
 use Rattle.reporting.proofs.gather.measured_cell.Reads as measured-cell-reads
 use Rattle.reporting.proofs.test.row_passes.Reads as row-passes-reads
 
--- src/gather.rt:173:9
+-- src/gather.rt:179:9
 row-passes-requires : tie.Need-row-passes-requires
 row-passes-requires c κs = search needs
 
--- src/gather.rt:174:9
+-- src/gather.rt:180:9
 returns : tie.Need-returns
 unfolding rowAdded
 returns c =
@@ -28,15 +28,15 @@ returns c =
     let p : passing (operatorOf (a .node)) env ≡ false = sym (c .before .row-passes .ensures) ∙ not-true (c .before .row-passes .result) (c .if1 .taken) in
     (rw p, search needs)
 
--- src/gather.rt:176:9
+-- src/gather.rt:182:9
 measured-cell-requires : tie.Need-measured-cell-requires
 measured-cell-requires c κs = search needs
 
--- src/gather.rt:177:5
+-- src/gather.rt:183:5
 add-requires : tie.Need-add-requires
 add-requires c κs = search needs
 
--- src/gather.rt:167:1
+-- src/gather.rt:173:1
 returns-2 : tie.Need-returns-2
 unfolding rowAdded
 returns-2 c =
