@@ -42,21 +42,29 @@ fn index(rows: &[Row], key: usize) -> HashMap<i32, Vec<usize>> {
 #[derive(Clone, Copy, Default)]
 struct Total {
     sum: i64,
+    blank: bool,
     off_scale: bool,
 }
 
 impl Total {
     fn add(&mut self, cell: i32) {
         match cell {
-            BLANK => {}
+            BLANK => self.blank = true,
             OFF_SCALE => self.off_scale = true,
             number => self.sum += i64::from(number),
         }
     }
 
+    /// An off-scale cell wins, then a blank one, then a sum outside of the range.
     fn cell(self) -> i32 {
+        if self.off_scale {
+            return OFF_SCALE;
+        }
+        if self.blank {
+            return BLANK;
+        }
         match i32::try_from(self.sum) {
-            Ok(sum) if is_number(sum) && !self.off_scale => sum,
+            Ok(sum) if is_number(sum) => sum,
             _ => OFF_SCALE,
         }
     }

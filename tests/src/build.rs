@@ -21,6 +21,19 @@ pub fn sized(columns: usize, height: usize) -> Table {
     Table { columns, rows }
 }
 
+/// Cards: a player, 1 if the card counts or else 0, and a score. Those that count come first, round by round.
+pub fn cards(counted: &[(i32, &[i32])], not_counted: &[(i32, i32)]) -> Table {
+    let longest = counted.iter().map(|(_, scores)| scores.len()).max().unwrap_or(0);
+    let mut rows = Vec::new();
+    for round in 0..longest {
+        for (player, scores) in counted {
+            rows.extend(scores.get(round).map(|&score| vec![*player, 1, score]));
+        }
+    }
+    rows.extend(not_counted.iter().map(|&(player, score)| vec![player, 0, score]));
+    Table { columns: 3, rows }
+}
+
 /// A test of a column with a column.
 pub fn columns_test(left: u8, comparison: Comparison, right: u8) -> Test {
     Test { form: Form::Columns(comparison, left, right), not: false }

@@ -90,7 +90,61 @@ pub fn edges() -> Vec<(&'static str, Input)> {
     add("every kind", vec![sized(2, 4), sized(3, 3)], every_kind());
     let club = club();
     add("the listing", club.tables, club.plan);
+    all.extend(aggregates());
     all
+}
+
+/// Cards with blanks at every place where they decide an aggregate or must not.
+fn cards_with_blanks() -> Table {
+    let counted: [(i32, &[i32]); 13] = [
+        // Blanks first, between and last; none; alone; and no player at all.
+        (1, &[5, BLANK, 7]),
+        (2, &[BLANK, 8]),
+        (3, &[6, BLANK]),
+        (4, &[30, 6]),
+        (5, &[BLANK]),
+        (BLANK, &[BLANK]),
+        // Off scale in both orders.
+        (7, &[BLANK, OFF_SCALE]),
+        (8, &[OFF_SCALE, BLANK]),
+        // Totals that leave the range at both ends, with a blank and without one.
+        (9, &[LARGEST, 1, BLANK]),
+        (10, &[-1, BLANK, -LARGEST]),
+        (11, &[LARGEST, 1]),
+        (12, &[-4]),
+        (13, &[2, -9, 3]),
+    ];
+    // Cards that do not count, one of them its player's only card.
+    cards(&counted, &[(4, BLANK), (6, BLANK), (11, BLANK), (12, OFF_SCALE)])
+}
+
+/// Aggregates of the cards that count, by player, and sums over an Each and over sums.
+fn aggregates() -> Vec<(&'static str, Input)> {
+    let counts = number_test(11, Equal, 1);
+    let players = || distinct(&[0], scan(0, 0));
+    let folded = |aggregate| fold(aggregate, 20, counts, players(), select(columns_test(10, Equal, 0), scan(0, 10)));
+    let paired = |aggregate| with_test(pair(aggregate, 20, keys(0, Equal, 10), players(), scan(0, 10)), counts);
+    let grouped = |aggregate| with_test(group(aggregate, 20, keys(21, Equal, 10), scan(0, 10)), counts);
+    let sum = Aggregate::Sum(12);
+    // Players 20 and 21 have no card, so the Each gives blanks for them.
+    let cards_of_each = each(scan(1, 30), select(columns_test(30, Equal, 10), scan(0, 10)));
+    let over_each = group(sum, 20, keys(21, Equal, 30), cards_of_each);
+    let over_sums = |key, sums| group(Aggregate::Sum(20), 40, keys(41, AtLeast, key), sums);
+    let numbers = select(number_test(20, Less, LARGEST), paired(sum));
+    let no_numbers = select(number_test(20, Less, LARGEST).not_turned(), folded(sum));
+    [
+        ("sums over blanks by a Fold", folded(sum)),
+        ("sums over blanks by a Pair", paired(sum)),
+        ("sums over blanks by a Group", grouped(sum)),
+        ("the least over blanks", folded(Aggregate::Least(12))),
+        ("the greatest over blanks", paired(Aggregate::Greatest(12))),
+        ("sums over the blanks of an Each", over_each),
+        ("sums over sums", over_sums(21, grouped(sum))),
+        ("sums over sums that are numbers", over_sums(0, numbers)),
+        ("sums that are no numbers, sorted", sort(false, &[20], no_numbers)),
+    ]
+    .map(|(name, plan)| (name, Input { tables: vec![cards_with_blanks(), one_column(&[20, 13, 21, 12, 20])], plan }))
+    .to_vec()
 }
 
 /// A plan with all fifteen kinds.

@@ -64,17 +64,22 @@ fn aggregate_of(aggregate: Aggregate, rows: &[&Vec<i32>], ids: &[u8]) -> i32 {
     if cells.contains(&OFF_SCALE) {
         return OFF_SCALE;
     }
-    let numbers = cells.into_iter().filter(|&cell| cell != BLANK);
+    let numbers = cells.iter().copied().filter(|&cell| cell != BLANK);
     match aggregate {
         Aggregate::Least(_) => numbers.min().unwrap_or(BLANK),
         Aggregate::Greatest(_) => numbers.max().unwrap_or(BLANK),
-        _ => {
-            let total: i64 = numbers.map(i64::from).sum();
-            match i32::try_from(total) {
-                Ok(sum) if is_number(sum) => sum,
-                _ => OFF_SCALE,
-            }
-        }
+        // A blank is decided before the range of the total.
+        _ if cells.contains(&BLANK) => BLANK,
+        _ => total(numbers),
+    }
+}
+
+/// The exact total of numbers; off scale if it leaves the range.
+fn total(numbers: impl Iterator<Item = i32>) -> i32 {
+    let exact: i64 = numbers.map(i64::from).sum();
+    match i32::try_from(exact) {
+        Ok(total) if is_number(total) => total,
+        _ => OFF_SCALE,
     }
 }
 

@@ -8,7 +8,7 @@ use second::edges::{club, edges, every_kind};
 use second::generate::Input;
 use second::nodes::{write_plan, HEADER, NODE};
 use second::plan::Comparison::{AtLeast, AtMost, Equal, Greater, Less, NotEqual};
-use second::plan::{Aggregate, Plan, Test, ALWAYS};
+use second::plan::{Aggregate, Comparison, Plan, Test, ALWAYS};
 use second::rules::{fit, free_id, stay_position, try_step, weight};
 use second::tables::{write_set, Table};
 
@@ -174,8 +174,9 @@ fn need_counts_every_node() {
 fn aggregates() {
     let off = Aggregate::Greatest(0);
     assert_eq!(aggregate(&[BLANK, 3, -4], Aggregate::Count), 3);
-    assert_eq!(aggregate(&[BLANK, 3, -4], Aggregate::Sum(0)), -1);
-    assert_eq!(aggregate(&[BLANK], Aggregate::Sum(0)), 0);
+    assert_eq!(aggregate(&[5, 3, -4], Aggregate::Sum(0)), 4);
+    assert_eq!(aggregate(&[BLANK, 3, -4], Aggregate::Sum(0)), BLANK);
+    assert_eq!(aggregate(&[BLANK], Aggregate::Sum(0)), BLANK);
     assert_eq!(aggregate(&[], Aggregate::Sum(0)), 0);
     assert_eq!(aggregate(&[BLANK], Aggregate::Least(0)), BLANK);
     assert_eq!(aggregate(&[], off), BLANK);
@@ -360,6 +361,197 @@ fn a_bound_that_grows_over_the_limit_keeps_a_rule_from_fitting() {
     // No stay note either where the plan after would be refused.
     assert_eq!(stay_position(&plan, 1, &[keyed(3), keyed(65), other.clone()]), None);
     assert_eq!(stay_position(&plan, 1, &[keyed(3), keyed(64), other]), Some(3));
+}
+
+/// A Fold, a Pair and a Group over the cards of table 0: each player, and the aggregate of the scores on cards that count and with whose
+/// player this one compares so.
+fn by_player(aggregate: Aggregate, comparison: Comparison) -> [Plan; 3] {
+    let counts = number_test(11, Equal, 1);
+    let players = || distinct(&[0], scan(0, 0));
+    let inner = select(columns_test(0, comparison, 10), scan(0, 10));
+    [
+        fold(aggregate, 20, counts, players(), inner),
+        with_test(pair(aggregate, 20, keys(0, comparison, 10), players(), scan(0, 10)), counts),
+        with_test(group(aggregate, 20, keys(0, comparison, 10), scan(0, 10)), counts),
+    ]
+}
+
+/// Checks that the Fold, the Pair and the Group give these rows of a player and an aggregate.
+fn all_three_give(cards: &Table, aggregate: Aggregate, comparison: Comparison, expected: &[[i32; 2]]) {
+    for plan in by_player(aggregate, comparison) {
+        assert_eq!(rows(&[cards.clone()], &plan), expected, "{plan:?}");
+    }
+}
+
+#[test]
+fn k2_a_blank_that_passes_makes_the_sum_blank() {
+    // First, between and last; alone and twice; none.
+    let scores: [(i32, &[i32]); 6] =
+        [(7, &[BLANK, 36]), (9, &[40, BLANK, 2]), (4, &[31, BLANK]), (5, &[BLANK]), (6, &[BLANK; 2]), (8, &[20, -50])];
+    let cards = cards(&scores, &[]);
+    let totals = [[7, BLANK], [9, BLANK], [4, BLANK], [5, BLANK], [6, BLANK], [8, -30]];
+    all_three_give(&cards, Aggregate::Sum(12), Equal, &totals);
+    let counts = [[7, 2], [9, 3], [4, 2], [5, 1], [6, 2], [8, 2]];
+    all_three_give(&cards, Aggregate::Count, Equal, &counts);
+    let least = [[7, 36], [9, 2], [4, 31], [5, BLANK], [6, BLANK], [8, -50]];
+    all_three_give(&cards, Aggregate::Least(12), Equal, &least);
+    let greatest = [[7, 36], [9, 40], [4, 31], [5, BLANK], [6, BLANK], [8, 20]];
+    all_three_give(&cards, Aggregate::Greatest(12), Equal, &greatest);
+}
+
+#[test]
+fn k2_a_blank_that_fails_the_test_counts_nowhere() {
+    // A test with a blank side fails too. Where no row passes the sum is 0.
+    let cards = table(&[&[7, 0, BLANK], &[7, 1, 36], &[9, BLANK, BLANK], &[7, 1, 4], &[4, 1, BLANK], &[7, 2, BLANK]]);
+    all_three_give(&cards, Aggregate::Sum(12), Equal, &[[7, 40], [9, 0], [4, BLANK]]);
+    all_three_give(&cards, Aggregate::Count, Equal, &[[7, 2], [9, 0], [4, 1]]);
+    all_three_give(&cards, Aggregate::Least(12), Equal, &[[7, 4], [9, BLANK], [4, BLANK]]);
+    all_three_give(&cards, Aggregate::Greatest(12), Equal, &[[7, 36], [9, BLANK], [4, BLANK]]);
+}
+
+#[test]
+fn k2_a_blank_whose_key_is_not_met_counts_nowhere() {
+    // A blank or off-scale key is met by no value, its own row's included.
+    let cards = table(&[&[BLANK, 1, BLANK], &[7, 1, 3], &[OFF_SCALE, 1, BLANK], &[BLANK, 1, 5], &[9, 1, BLANK]]);
+    let expected = [[BLANK, 0], [7, 3], [OFF_SCALE, 0], [9, BLANK]];
+    all_three_give(&cards, Aggregate::Sum(12), Equal, &expected);
+    // Each value over the smaller keys, over the others, and over those from itself on.
+    let cards = table(&[&[3, 1, 10], &[2, 1, BLANK], &[1, 1, 5], &[3, 1, 4]]);
+    all_three_give(&cards, Aggregate::Sum(12), Greater, &[[3, BLANK], [2, 5], [1, 0]]);
+    all_three_give(&cards, Aggregate::Sum(12), NotEqual, &[[3, BLANK], [2, 19], [1, BLANK]]);
+    all_three_give(&cards, Aggregate::Sum(12), AtMost, &[[3, 14], [2, BLANK], [1, BLANK]]);
+}
+
+#[test]
+fn k2_off_scale_wins_over_a_blank_in_both_orders() {
+    let scores: [(i32, &[i32]); 5] = [
+        (1, &[OFF_SCALE, BLANK]),
+        (2, &[BLANK, OFF_SCALE]),
+        (3, &[BLANK, 5, OFF_SCALE, BLANK]),
+        (4, &[BLANK]),
+        (5, &[OFF_SCALE]),
+    ];
+    // Off scale on a card that does not count, and a blank on one.
+    let cards = cards(&scores, &[(4, OFF_SCALE), (5, BLANK)]);
+    let expected = [[1, OFF_SCALE], [2, OFF_SCALE], [3, OFF_SCALE], [4, BLANK], [5, OFF_SCALE]];
+    for aggregate in [Aggregate::Sum(12), Aggregate::Least(12), Aggregate::Greatest(12)] {
+        all_three_give(&cards, aggregate, Equal, &expected);
+    }
+    all_three_give(&cards, Aggregate::Count, Equal, &[[1, 2], [2, 2], [3, 4], [4, 1], [5, 1]]);
+}
+
+#[test]
+fn k2_a_blank_is_decided_before_the_range_of_the_total() {
+    let scores: [(i32, &[i32]); 5] = [
+        (1, &[LARGEST, 1, BLANK]),
+        (2, &[-1, BLANK, -LARGEST]),
+        // With no blank that counts the range decides, by the exact total.
+        (3, &[LARGEST, 1]),
+        (4, &[-LARGEST, -1]),
+        (5, &[LARGEST, 1, -1]),
+    ];
+    let cards = cards(&scores, &[(3, BLANK)]);
+    let totals = [[1, BLANK], [2, BLANK], [3, OFF_SCALE], [4, OFF_SCALE], [5, LARGEST]];
+    all_three_give(&cards, Aggregate::Sum(12), Equal, &totals);
+    let least = [[1, 1], [2, -LARGEST], [3, 1], [4, -LARGEST], [5, -1]];
+    all_three_give(&cards, Aggregate::Least(12), Equal, &least);
+    let greatest = [[1, LARGEST], [2, -1], [3, LARGEST], [4, -1], [5, LARGEST]];
+    all_three_give(&cards, Aggregate::Greatest(12), Equal, &greatest);
+    // 999 of the largest number, and a blank before or behind them.
+    let tall = [LARGEST; 999];
+    assert_eq!(aggregate(&[&tall[..], &[BLANK]].concat(), Aggregate::Sum(0)), BLANK);
+    assert_eq!(aggregate(&[&[BLANK], &tall[..]].concat(), Aggregate::Sum(0)), BLANK);
+}
+
+#[test]
+fn k2_no_rows_at_all_give_0() {
+    let tables = [one_column(&[7, BLANK]), Table { columns: 3, rows: vec![] }];
+    let sum = Aggregate::Sum(12);
+    assert_eq!(rows(&tables, &fold(sum, 20, ALWAYS, scan(0, 0), scan(1, 10))), [[7, 0], [BLANK, 0]]);
+    assert_eq!(rows(&tables, &pair(sum, 20, keys(0, Equal, 10), scan(0, 0), scan(1, 10))), [[7, 0], [BLANK, 0]]);
+    all_three_give(&tables[1], sum, Equal, &[]);
+    // Rows that all fail.
+    let cards = table(&[&[7, 0, BLANK], &[9, 0, OFF_SCALE], &[7, 0, 5]]);
+    all_three_give(&cards, sum, Equal, &[[7, 0], [9, 0]]);
+}
+
+#[test]
+fn k2_sums_over_the_blanks_of_an_each() {
+    let tables = [one_column(&[7, 9, 4]), table(&[&[7, 36], &[4, OFF_SCALE], &[7, 2]])];
+    let cards_of = |player| select(columns_test(player, Equal, 1), scan(1, 1));
+    let eaches = || each(scan(0, 0), cards_of(0));
+    assert_eq!(rows(&tables, &eaches()), [[7, 7, 36], [7, 7, 2], [9, BLANK, BLANK], [4, 4, OFF_SCALE]]);
+    let grouped = group(Aggregate::Sum(2), 9, keys(8, Equal, 0), eaches());
+    assert_eq!(rows(&tables, &grouped), [[7, 38], [9, BLANK], [4, OFF_SCALE]]);
+    let paired = pair(Aggregate::Sum(2), 9, keys(8, Equal, 0), scan(0, 8), eaches());
+    assert_eq!(rows(&tables, &paired), [[7, 38], [9, BLANK], [4, OFF_SCALE]]);
+    // The player's own id is never blank; the card's is.
+    assert_eq!(rows(&tables, &fold(Aggregate::Sum(0), 9, ALWAYS, Plan::Unit, eaches())), [[27]]);
+    assert_eq!(rows(&tables, &fold(Aggregate::Sum(1), 9, ALWAYS, Plan::Unit, eaches())), [[BLANK]]);
+    let below_40 = fold(Aggregate::Sum(2), 9, number_test(2, Less, 40), Plan::Unit, eaches());
+    assert_eq!(rows(&tables, &below_40), [[38]]);
+    // A player without cards: no row gives 0, the row of an Each gives blank.
+    let bare = fold(Aggregate::Sum(2), 9, ALWAYS, scan(0, 8), cards_of(8));
+    assert_eq!(rows(&tables, &bare), [[7, 38], [9, 0], [4, OFF_SCALE]]);
+    let inside = fold(Aggregate::Sum(2), 9, ALWAYS, scan(0, 8), each(Plan::Unit, cards_of(8)));
+    assert_eq!(rows(&tables, &inside), [[7, 38], [9, BLANK], [4, OFF_SCALE]]);
+}
+
+#[test]
+fn k2_sums_over_sums() {
+    // Clubs with their players, and cards.
+    let clubs = table(&[&[1, 7], &[1, 9], &[2, 4], &[2, 5], &[3, 6]]);
+    let cards = table(&[&[7, 36], &[9, BLANK], &[4, LARGEST], &[4, 1], &[5, BLANK], &[6, 3], &[6, 4]]);
+    let tables = [clubs, cards];
+    let paired = || pair(Aggregate::Sum(11), 20, keys(1, Equal, 10), scan(0, 0), scan(1, 10));
+    let of_players = [[1, 7, 36], [1, 9, BLANK], [2, 4, OFF_SCALE], [2, 5, BLANK], [3, 6, 7]];
+    assert_eq!(rows(&tables, &paired()), of_players);
+    let of_clubs = group(Aggregate::Sum(20), 30, keys(31, Equal, 0), paired());
+    assert_eq!(rows(&tables, &of_clubs), [[1, BLANK], [2, OFF_SCALE], [3, 7]]);
+    let of_all = |test, sums: &Plan| rows(&tables, &fold(Aggregate::Sum(20), 40, test, Plan::Unit, sums.clone()));
+    assert_eq!(of_all(ALWAYS, &paired()), [[OFF_SCALE]]);
+    assert_eq!(of_all(number_test(0, NotEqual, 2), &paired()), [[BLANK]]);
+    assert_eq!(of_all(number_test(20, Less, 100), &paired()), [[43]]);
+    // A Group over a Group: for each player the total of that player and of all with a larger number, or a smaller one.
+    let grouped = group(Aggregate::Sum(11), 20, keys(21, Equal, 10), scan(1, 10));
+    assert_eq!(rows(&tables, &grouped), [[7, 36], [9, BLANK], [4, OFF_SCALE], [5, BLANK], [6, 7]]);
+    let larger = group(Aggregate::Sum(20), 40, keys(41, AtMost, 21), grouped.clone());
+    assert_eq!(rows(&tables, &larger), [[7, BLANK], [9, BLANK], [4, OFF_SCALE], [5, BLANK], [6, BLANK]]);
+    let over_5 = select(number_test(21, Greater, 5), grouped);
+    let smaller = group(Aggregate::Sum(20), 40, keys(41, AtLeast, 21), over_5);
+    assert_eq!(rows(&tables, &smaller), [[7, 43], [9, BLANK], [6, 7]]);
+}
+
+#[test]
+fn k2_a_blank_sum_is_a_blank_cell_above() {
+    let cards = table(&[&[7, 1, 36], &[9, 1, BLANK], &[4, 1, -3], &[5, 1, 1], &[5, 1, BLANK], &[6, 1, OFF_SCALE]]);
+    let below_0 = number_test(20, Less, 0);
+    for plan in by_player(Aggregate::Sum(12), Equal) {
+        let above = |plan: &Plan| rows(&[cards.clone()], plan);
+        assert_eq!(above(&plan), [[7, 36], [9, BLANK], [4, -3], [5, BLANK], [6, OFF_SCALE]]);
+        assert_eq!(above(&select(below_0, plan.clone())), [[4, -3]]);
+        let not_below_0 = [[7, 36], [9, BLANK], [5, BLANK], [6, OFF_SCALE]];
+        assert_eq!(above(&select(below_0.not_turned(), plan.clone())), not_below_0);
+        let upward = [[9, BLANK], [5, BLANK], [4, -3], [7, 36], [6, OFF_SCALE]];
+        assert_eq!(above(&sort(false, &[20], plan.clone())), upward);
+        assert_eq!(above(&distinct(&[20], plan)), [[36], [BLANK], [-3], [OFF_SCALE]]);
+    }
+}
+
+#[test]
+fn k2_unnesting_keeps_a_blank_sum() {
+    let tables = [table(&[&[7, 1, 36], &[9, 1, BLANK], &[7, 1, BLANK], &[4, 0, BLANK], &[4, 1, 31]])];
+    let [folded, paired, grouped] = by_player(Aggregate::Sum(12), Equal);
+    let totals = [[7, BLANK], [9, BLANK], [4, 31]];
+    // U5 makes the Pair of the Fold, and U6 the Group of the Pair.
+    assert_eq!(try_step(&folded, 5, 0, &tables), paired);
+    assert_eq!(fit(&paired, 0, &tables), Some((6, grouped.clone())));
+    let left = unnest(&write_set(&tables), &write_plan(&folded), ROOMY, ROOMY, ROOMY).expect("steps");
+    assert_eq!(left.steps, [(5, 0), (6, 0)]);
+    assert_eq!(left.plan, write_plan(&grouped));
+    for plan in [folded, paired, grouped] {
+        assert_eq!(rows(&tables, &plan), totals);
+    }
 }
 
 /// Tables of one column with these many rows.
