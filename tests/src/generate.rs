@@ -1,6 +1,6 @@
 //! Random tables and random accepted plans, biased so that each of the eight rules fits often.
 
-use crate::build::one_column;
+use crate::build::*;
 use crate::cells::{BLANK, LARGEST, OFF_SCALE};
 use crate::check::{bound, check_tree};
 use crate::nodes::write_plan;
@@ -581,6 +581,59 @@ pub fn common_beginning(random: &mut Random) -> Input {
     };
     let tables = vec![column(), column()];
     Input { tables, plan: of_two_columns(random) }
+}
+
+/// A Fold, a Pair or a Group, mostly of a sum, over cells that are often blank, off scale or at the ends of the range.
+pub fn totals(random: &mut Random) -> Input {
+    let tables = vec![scores(random), scores(random)];
+    let (rows, key, cell) = rows_to_sum(random);
+    let aggregate = match random.below(20) {
+        0 => Aggregate::Count,
+        1 => Aggregate::Least(cell),
+        2 => Aggregate::Greatest(cell),
+        _ => Aggregate::Sum(cell),
+    };
+    let comparison = if random.chance(60) { Comparison::Equal } else { random.pick(&COMPARISONS) };
+    let test = match random.below(3) {
+        0 => {
+            let test = number_test(random.pick(&[key, cell]), random.pick(&COMPARISONS), number(random));
+            Test { not: random.chance(50), ..test }
+        }
+        _ => ALWAYS,
+    };
+    let left = distinct(&[0], scan(random.below(2) as u8, 0));
+    let plan = match random.below(3) {
+        0 => fold(aggregate, 50, test, left, select(columns_test(0, comparison, key), rows)),
+        1 => with_test(pair(aggregate, 50, keys(0, comparison, key), left, rows), test),
+        _ => with_test(group(aggregate, 50, keys(51, comparison, key), rows), test),
+    };
+    Input { tables, plan }
+}
+
+/// A table of a key, out of four or blank, and two cells. Those of a key are blank or one of two codes.
+fn scores(random: &mut Random) -> Table {
+    let codes = [BLANK, OFF_SCALE, OFF_SCALE, LARGEST, LARGEST, LARGEST, -LARGEST, 1];
+    let cells = [0; 4].map(|_| [BLANK, random.pick(&codes), random.pick(&codes)]);
+    let height = if random.chance(10) { 0 } else { random.between(6, 16) };
+    let mut row = || {
+        let key = random.below(4);
+        let code = if random.chance(10) { BLANK } else { key as i32 };
+        vec![code, random.pick(&cells[key]), random.pick(&cells[key])]
+    };
+    Table { columns: 3, rows: (0..height).map(|_| row()).collect() }
+}
+
+/// Rows with the ids of a key and of a cell: those of table 1, or an Each of table 0 with them, or table 0 with sums over them.
+fn rows_to_sum(random: &mut Random) -> (Plan, u8, u8) {
+    let cell = random.pick(&[11, 12]);
+    match random.below(5) {
+        0 => (each(scan(0, 20), select(columns_test(20, Comparison::Equal, 10), scan(1, 10))), 20, cell),
+        1 => {
+            let keys = keys(20, random.pick(&COMPARISONS), 10);
+            (pair(Aggregate::Sum(cell), 30, keys, scan(0, 20), scan(1, 10)), 20, 30)
+        }
+        _ => (scan(1, 10), 10, cell),
+    }
 }
 
 /// A list of steps to try on a plan: some fit where they stand, some do not.

@@ -6,8 +6,10 @@ use crate::archive;
 use crate::build::*;
 use crate::calls;
 use crate::cases::{damaged_once, fault_case};
+use crate::cells::{BLANK, OFF_SCALE};
+use crate::check::need;
 use crate::damage::{faults, Fault};
-use crate::generate::{accepted, code, common_beginning, steps, Input};
+use crate::generate::{accepted, code, common_beginning, steps, totals, Input};
 use crate::plan::Comparison::Equal;
 use crate::plan::{Aggregate, Plan, COMPARISONS};
 use crate::random::Random;
@@ -30,6 +32,8 @@ pub struct Counts {
     pub notes: [usize; 2],
     /// Those of them where just one sequence has ended at the position.
     pub ended: usize,
+    /// Sums that a plan's first node took: those that are numbers, blank, off scale.
+    pub sums: [usize; 3],
 }
 
 impl Counts {
@@ -48,8 +52,26 @@ impl Counts {
             + &by_number("stay note", &self.stay_notes)
             + &format!("notes with position 0 {}, with a later one {}, ", self.notes[0], self.notes[1])
             + &format!("where just one sequence has ended {}\n", self.ended)
+            + &format!("sums that are numbers {}, blank {}, off scale {}\n", self.sums[0], self.sums[1], self.sums[2])
             + &format!("steps of the unnesting call{}\n", by_rule(&self.rules))
             + &format!("tried steps that fitted{}, that did not {}\n", by_rule(&self.tried), self.tried[0])
+    }
+
+    /// Counts the sums that the first node of an accepted plan takes: they stand last in the report's rows.
+    fn count_sums(&mut self, plan: &Plan, report: &calls::Report) {
+        let (Plan::Fold { aggregate, .. } | Plan::Pair { aggregate, .. } | Plan::Group { aggregate, .. }) = plan else {
+            return;
+        };
+        if let Aggregate::Sum(_) = aggregate {
+            for row in report.codes.chunks(report.columns) {
+                let place = match row.last() {
+                    Some(&BLANK) => 1,
+                    Some(&OFF_SCALE) => 2,
+                    _ => 0,
+                };
+                self.sums[place] += 1;
+            }
+        }
     }
 }
 
@@ -67,7 +89,8 @@ pub fn hold_seeds(seed: u64, count: u64, counts: &mut Counts) -> Result<(), Stri
 /// A random input: accepted; with one fault or two; or with bytes changed, cut off or put on anywhere.
 fn drawn(random: &mut Random, faults: &[Fault]) -> (Vec<u8>, Vec<u8>) {
     match random.below(100) {
-        0..=56 => bytes_of(&accepted(random)),
+        0..=54 => bytes_of(&accepted(random)),
+        55..=56 => bytes_of(&totals(random)),
         57..=58 => bytes_of(&common_beginning(random)),
         59 => bytes_of(&large(random)),
         60..=73 => {
@@ -159,9 +182,13 @@ fn below(room: usize) -> usize {
 }
 
 /// The reporting call at the edge of both rooms, and at one pair of rooms around it.
-fn hold_report(random: &mut Random, set: &[u8], plan: &[u8], counts: &mut Counts) -> Result<(), String> {
-    let (cells, need) = match calls::report(set, plan, calls::ROOMY, calls::ROOMY) {
-        Ok(report) => (report.codes.len(), calls::need_of(set, plan).expect("an accepted plan") as usize),
+pub fn hold_report(random: &mut Random, set: &[u8], plan: &[u8], counts: &mut Counts) -> Result<(), String> {
+    let (cells, need) = match calls::read(set, plan) {
+        Ok((tables, tree)) => {
+            let report = calls::report_of(&tree, &tables);
+            counts.count_sums(&tree, &report);
+            (report.codes.len(), need(&tree, &tables) as usize)
+        }
         Err(_) => (random.below(9), random.below(5000)),
     };
     let around = match random.below(6) {
@@ -264,7 +291,7 @@ fn hold_stay_notes(random: &mut Random, set: &[u8], plan: &[u8], counts: &mut Co
     let (size, due, need) = match &read {
         Ok((tables, tree)) => {
             let due = |&place: &usize| stay_position(tree, place, tables).is_some();
-            (tree.size(), (0..tree.size()).find(due), crate::check::need(tree, tables) as usize)
+            (tree.size(), (0..tree.size()).find(due), need(tree, tables) as usize)
         }
         Err(_) => (random.between(1, 9), None, random.below(5000)),
     };

@@ -6,11 +6,15 @@ mod held {
     use second::build::*;
     use second::calls::need_of;
     use second::cases::cases;
+    use second::cells::{BLANK, LARGEST, OFF_SCALE};
     use second::edges::edges;
     use second::generate::Input;
-    use second::held::{hold, hold_seeds, Counts};
+    use second::held::{hold, hold_report, hold_seeds, Counts};
+    use second::nodes::write_plan;
+    use second::plan::Aggregate;
+    use second::plan::Comparison::Equal;
     use second::random::Random;
-    use second::tables::Table;
+    use second::tables::{write_set, Table};
 
     /// How many random inputs are tried.
     const INPUTS: u64 = 15_000;
@@ -28,6 +32,7 @@ mod held {
         assert!(met(&counts.stay_notes[..15], 20) && counts.stay_notes[16] >= 20, "{:?}", counts.stay_notes);
         assert!(met(&counts.rules[1..], 200), "{:?}", counts.rules);
         assert!(met(&counts.notes, 100) && counts.ended >= 100, "{:?}, {}", counts.notes, counts.ended);
+        assert!(met(&counts.sums, 200), "{:?}", counts.sums);
     }
 
     #[test]
@@ -87,6 +92,47 @@ mod held {
         }
         println!("products of three row counts: refused {}, accepted {}", counts[0], counts[1]);
         assert!(counts.iter().all(|&count| count > 2_000), "{counts:?}");
+    }
+
+    /// Cells that decide an aggregate: the two codes that are no numbers, the ends of the range, 1 and 0.
+    const CELLS: [i32; 6] = [BLANK, OFF_SCALE, LARGEST, -LARGEST, 1, 0];
+
+    /// All lists of up to four of them.
+    fn short_lists() -> Vec<Vec<i32>> {
+        let longer = |list: &Vec<i32>| CELLS.map(|cell| [&list[..], &[cell]].concat());
+        let mut all = vec![vec![]];
+        let mut longest = all.clone();
+        for _ in 0..4 {
+            longest = longest.iter().flat_map(longer).collect();
+            all.extend(longest.clone());
+        }
+        all
+    }
+
+    #[test]
+    fn k2_aggregates_of_short_lists_are_those_of_the_second_evaluator() {
+        let mut random = Random::new(7);
+        let mut counts = Counts::default();
+        let all_pass = number_test(1, Equal, 7);
+        let by_key = keys(0, Equal, 1);
+        for list in short_lists() {
+            // The key 7 in each row, and a cell of the list.
+            let cells = Table { columns: 2, rows: list.iter().map(|&cell| vec![7, cell]).collect() };
+            let set = write_set(&[cells, one_column(&[7])]);
+            for aggregate in [Aggregate::Count, Aggregate::Sum(2), Aggregate::Least(2), Aggregate::Greatest(2)] {
+                for plan in [
+                    fold(aggregate, 9, all_pass, scan(1, 0), scan(0, 1)),
+                    with_test(pair(aggregate, 9, by_key, scan(1, 0), scan(0, 1)), all_pass),
+                    with_test(group(aggregate, 9, by_key, scan(0, 1)), all_pass),
+                ] {
+                    let held = hold_report(&mut random, &set, &write_plan(&plan), &mut counts);
+                    held.unwrap_or_else(|difference| panic!("{list:?}, {plan:?}: {difference}"));
+                }
+            }
+        }
+        let [numbers, blank, off_scale] = counts.sums;
+        println!("sums of short lists: numbers {numbers}, blank {blank}, off scale {off_scale}");
+        assert!(counts.sums.iter().all(|&count| count > 500), "{:?}", counts.sums);
     }
 }
 

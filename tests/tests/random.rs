@@ -3,7 +3,7 @@
 
 use second::calls::{read, report_of, unnest_tree};
 use second::check::columns;
-use second::generate::{accepted, common_beginning, steps};
+use second::generate::{accepted, common_beginning, steps, totals};
 use second::nodes::write_plan;
 use second::random::Random;
 use second::rules::{first_fit, fit, sequences, stay_position, try_step, weight};
@@ -16,8 +16,9 @@ fn unnesting_keeps_the_report() {
     let mut fitted = [0usize; 9];
     let mut kinds = [0usize; 15];
     let mut longest = 0;
-    for seed in 0..PLANS {
-        let input = accepted(&mut Random::new(seed));
+    for seed in 0..PLANS + 400 {
+        let mut random = Random::new(seed);
+        let input = if seed < PLANS { accepted(&mut random) } else { totals(&mut random) };
         let (tables, tree) = read(&input.set_bytes(), &input.plan_bytes()).expect("an accepted plan");
         assert_eq!((&tables, &tree), (&input.tables, &input.plan));
         tree.nodes().iter().for_each(|node| kinds[usize::from(node.kind())] += 1);
