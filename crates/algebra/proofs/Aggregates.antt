@@ -9,7 +9,7 @@ use lib.ListN.{length}
 use Rattle.algebra.specs.Lists.{filter, any, total}
 use Rattle.algebra.specs.Cells.{Summary, sum, least, greatest, over, blank, offScale, isBlank, needsAll, sumOf, summary, aggregate}
 
--- ---- an element that no test finds makes no difference
+-- ---- an element that fails the test makes no difference
 module _ (p : ℕ → Bool) (x : ℕ) (fails : p x ≡ false) where
   any-without : (xs ys : List ℕ) → any p (xs ++ (x ∷ ys)) ≡ any p (xs ++ ys)
   any-without [] ys = rw fails
@@ -19,6 +19,7 @@ module _ (p : ℕ → Bool) (x : ℕ) (fails : p x ≡ false) where
   filter-without [] ys = rw fails
   filter-without (y ∷ xs) ys = ap (λ (l : List ℕ). cond (p y) (y ∷ l) l) (filter-without xs ys)
 
+-- where no element passes none is taken out
 filter-all : (p : ℕ → Bool) (xs : List ℕ) → any p xs ≡ false → filter (λ x. not (p x)) xs ≡ xs
 filter-all p [] h = refl
 filter-all p (x ∷ xs) h =

@@ -59,8 +59,8 @@ fn either(a: bool, b: bool) -> bool
     b
 }
 
-// The cell of a sum over so many rows, of which so many are not blank and add up to the sum: blank where one is blank; else off scale
-// where the exact total leaves the range.
+// The cell of a sum. So many rows passed, so many of their cells are not blank, and these add up to the sum: blank where a cell is blank,
+// else off scale where the exact total leaves the range.
 fn sum_cell(rows: usize, numbers: usize, sum: u64) -> u32
     requires { ⌜ (numbers ≤ 4096) × (sum ≤ 17592186040320) ⌝ }
     ensures { λ r. ⌜ r ≡ cond (ltb numbers rows) blank (sumOf numbers sum) ⌝ }
