@@ -1,12 +1,13 @@
 -- Laws of comparisons and of the count. Assumes nothing.
 use Prim.Native.Nat.{ℕ, _+_, _≤_}
-use mathlib.Core.Bool.{Bool, true, false, not, _&&_}
+use mathlib.Core.Bool.{Bool, true, false, not}
 use mathlib.Core.Logic.{_⊎_, inl, inr}
 use mathlib.Core.Path.{_≡_, refl, ap, sym, _∙_}
 use native.Mathlib.Omega.{arith}
-use lib.Dec.{eqb, ltb}
+use lib.Dec.{eqb, ltb, leb}
 use borrow.Author.Tests.{eqb-true, eqb-false, eq-eqb, ne-eqb, ltb-true, ltb-false, lt-ltb, le-ltb}
-use Rattle.algebra.specs.Cells.{Comparison, eq, ne, lt, le, gt, ge, blank, offScale, origin, isNumber, order, compares, turn}
+use Rattle.algebra.specs.Lists.{if_then_else_}
+use Rattle.algebra.specs.Cells.{Comparison, eq, ne, lt, le, gt, ge, blank, offScale, origin, isNumber, isUnequal, order, compares, turn}
 
 pub eqb-sym : (a b : ℕ) → eqb a b ≡ eqb b a
 eqb-sym a b = go (eqb a b) refl
@@ -15,31 +16,99 @@ eqb-sym a b = go (eqb a b) refl
     go true e = sym (eq-eqb b a (sym (eqb-true a b e)))
     go false e = sym (ne-eqb b a (λ q. eqb-false a b e (sym q)))
 
-order-turn : (c : Comparison) (a b : ℕ) → order (turn c) a b ≡ order c b a
-order-turn eq a b = eqb-sym a b
-order-turn ne a b = ap not (eqb-sym a b)
-order-turn lt a b = refl
-order-turn le a b = refl
-order-turn gt a b = refl
-order-turn ge a b = refl
+-- ---- the whole table of outcomes
 
-and-swap : (p q r : Bool) → p && (q && r) ≡ q && (p && r)
-and-swap true q r = refl
-and-swap false true r = refl
-and-swap false false r = refl
+-- what a side of a comparison can be
+pub data Side : Type 0 where
+  aNumber aBlank anOffScale : Side
 
+abbrev pub sideOf : ℕ → Side
+sideOf x = if eqb x blank then aBlank else if eqb x offScale then anOffScale else aNumber
+
+-- the outcomes of the six comparisons: = ≠ < ≤ > ≥
+abbrev pub six : Bool → Bool → Bool → Bool → Bool → Bool → Comparison → Bool
+six equal unequal less atMost greater atLeast eq = equal
+six equal unequal less atMost greater atLeast ne = unequal
+six equal unequal less atMost greater atLeast lt = less
+six equal unequal less atMost greater atLeast le = atMost
+six equal unequal less atMost greater atLeast gt = greater
+six equal unequal less atMost greater atLeast ge = atLeast
+
+-- the outcomes for every two sorts of side
+abbrev pub table : Side → Side → ℕ → ℕ → Comparison → Bool
+table aNumber aNumber a b = six (eqb a b) (not (eqb a b)) (ltb a b) (leb a b) (ltb b a) (leb b a)
+table aNumber aBlank a b = six false true false false false false
+table aNumber anOffScale a b = six false false false false false false
+table aBlank aNumber a b = six false true false false false false
+table aBlank aBlank a b = six false false false false false false
+table aBlank anOffScale a b = six false false false false false false
+table anOffScale aNumber a b = six false false false false false false
+table anOffScale aBlank a b = six false false false false false false
+table anOffScale anOffScale a b = six false false false false false false
+
+-- an outcome for each comparison, taken as six
+in-six : (f : Comparison → Bool) (c : Comparison) → f c ≡ six (f eq) (f ne) (f lt) (f le) (f gt) (f ge) c
+in-six f eq = refl
+in-six f ne = refl
+in-six f lt = refl
+in-six f le = refl
+in-six f gt = refl
+in-six f ge = refl
+
+-- each cell is blank, off scale or neither
+abbrev Facts : ℕ → Type 0
+Facts x = (x ≡ blank) ⊎ ((x ≡ offScale) ⊎ ((eqb x blank ≡ false) × (eqb x offScale ≡ false)))
+
+facts : (x : ℕ) → Facts x
+facts x = go (eqb x blank) (eqb x offScale) refl refl
+  where
+    go : (p q : Bool) → eqb x blank ≡ p → eqb x offScale ≡ q → Facts x
+    go true q e f = inl (eqb-true x blank e)
+    go false true e f = inr (inl (eqb-true x offScale f))
+    go false false e f = inr (inr (e, f))
+
+-- every comparison of any two cells comes out as the table says
+pub compares-table : (c : Comparison) (a b : ℕ) → compares c a b ≡ table (sideOf a) (sideOf b) a b c
+unfolding compares
+compares-table c a b = go (facts a) (facts b)
+  where
+    go : Facts a → Facts b → compares c a b ≡ table (sideOf a) (sideOf b) a b c
+    go (inl e) (inl f) = rw (e, f) (in-six (λ k. false) c)
+    go (inl e) (inr (inl f)) = rw (e, f) (in-six (λ k. false) c)
+    go (inl e) (inr (inr f)) = rw (e, f .0, f .1) (in-six isUnequal c)
+    go (inr (inl e)) (inl f) = rw (e, f) (in-six (λ k. false) c)
+    go (inr (inl e)) (inr (inl f)) = rw (e, f) (in-six (λ k. false) c)
+    go (inr (inl e)) (inr (inr f)) = rw (e, f .0, f .1) (in-six (λ k. false) c)
+    go (inr (inr e)) (inl f) = rw (e .0, e .1, f) (in-six isUnequal c)
+    go (inr (inr e)) (inr (inl f)) = rw (e .0, e .1, f) (in-six (λ k. false) c)
+    go (inr (inr e)) (inr (inr f)) = rw (e .0, e .1, f .0, f .1) (in-six (λ k. order k a b) c)
+
+six-turn : (equal unequal less atMost greater atLeast : Bool) (c : Comparison)
+    → six equal unequal less atMost greater atLeast (turn c) ≡ six equal unequal greater atLeast less atMost c
+six-turn equal unequal less atMost greater atLeast eq = refl
+six-turn equal unequal less atMost greater atLeast ne = refl
+six-turn equal unequal less atMost greater atLeast lt = refl
+six-turn equal unequal less atMost greater atLeast le = refl
+six-turn equal unequal less atMost greater atLeast gt = refl
+six-turn equal unequal less atMost greater atLeast ge = refl
+
+table-turn : (s t : Side) (c : Comparison) (a b : ℕ) → table s t a b (turn c) ≡ table t s b a c
+table-turn aNumber aNumber c a b =
+    six-turn (eqb a b) (not (eqb a b)) (ltb a b) (leb a b) (ltb b a) (leb b a) c ∙ ap (λ (e : Bool). six e (not e) (ltb b a) (leb b a) (ltb a b) (leb a b) c) (eqb-sym a b)
+table-turn aNumber aBlank c a b = six-turn false true false false false false c
+table-turn aNumber anOffScale c a b = six-turn false false false false false false c
+table-turn aBlank aNumber c a b = six-turn false true false false false false c
+table-turn aBlank aBlank c a b = six-turn false false false false false false c
+table-turn aBlank anOffScale c a b = six-turn false false false false false false c
+table-turn anOffScale aNumber c a b = six-turn false false false false false false c
+table-turn anOffScale aBlank c a b = six-turn false false false false false false c
+table-turn anOffScale anOffScale c a b = six-turn false false false false false false c
+
+-- turning the sides turns the comparison
 pub compares-turn : (c : Comparison) (a b : ℕ) → compares (turn c) a b ≡ compares c b a
-unfolding compares
-compares-turn c a b = ap (λ (z : Bool). isNumber a && (isNumber b && z)) (order-turn c a b) ∙ and-swap (isNumber a) (isNumber b) (order c b a)
+compares-turn c a b = compares-table (turn c) a b ∙ table-turn (sideOf a) (sideOf b) c a b ∙ sym (compares-table c b a)
 
--- a comparison with a side that is blank or off scale is false
-pub compares-left : (c : Comparison) (x b : ℕ) → (x ≡ blank) ⊎ (x ≡ offScale) → compares c x b ≡ false
-unfolding compares
-compares-left c x b (inl e) = rw e
-compares-left c x b (inr e) = rw e
-
-pub compares-right : (c : Comparison) (a x : ℕ) → (x ≡ blank) ⊎ (x ≡ offScale) → compares c a x ≡ false
-compares-right c a x h = sym (compares-turn c x a) ∙ compares-left (turn c) x a h
+-- ---- the count
 
 -- a count's cell compared with the number 0
 number-count : (n : ℕ) → n ≤ 4096 → isNumber (origin + n) ≡ true

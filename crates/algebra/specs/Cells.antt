@@ -1,11 +1,11 @@
 -- Cells, comparisons and aggregates (docs/DEFINITION.md, "Cells", "Tests and comparisons" and "Aggregates"). Definitions only.
 -- A cell is held as its signed 32-bit code plus 2^31, so that the order of cells is the order of codes.
 use Prim.Native.Nat.{ℕ, _+_, _*_, _-_, min, max}
-use mathlib.Core.Bool.{Bool, true, false, not, cond, _&&_}
+use mathlib.Core.Bool.{Bool, true, false, not, cond, _&&_, _||_}
 use mathlib.Core.List.{List, [], _∷_, foldr}
 use lib.Dec.{eqb, ltb, leb}
 use lib.ListN.{length}
-use Rattle.algebra.specs.Lists.{filter, any, total}
+use Rattle.algebra.specs.Lists.{if_then_else_, filter, any, total}
 
 pub data Comparison : Type 0 where
   eq ne lt le gt ge : Comparison
@@ -38,6 +38,9 @@ reach = 2000000000
 abbrev pub inRange : ℕ → Bool
 inRange x = leb (origin - reach) x && leb x (origin + reach)
 
+abbrev pub isBlank : ℕ → Bool
+isBlank x = eqb x blank
+
 abbrev pub isNumber : ℕ → Bool
 isNumber x = not (eqb x blank) && not (eqb x offScale)
 
@@ -49,9 +52,21 @@ order le a b = leb a b
 order gt a b = ltb b a
 order ge a b = leb b a
 
--- a comparison with a blank or off-scale side is false
+abbrev pub isUnequal : Comparison → Bool
+isUnequal eq = false
+isUnequal ne = true
+isUnequal lt = false
+isUnequal le = false
+isUnequal gt = false
+isUnequal ge = false
+
+-- of two cells one is blank and the other a number
+abbrev pub oneBlank : ℕ → ℕ → Bool
+oneBlank a b = (isNumber a && isBlank b) || (isNumber b && isBlank a)
+
+-- two numbers compare as they are ordered; of any other two cells only ≠ can hold, and it does where one is blank and the other a number
 unfoldable pub compares : Comparison → ℕ → ℕ → Bool
-compares c a b = isNumber a && (isNumber b && order c a b)
+compares c a b = if isNumber a && isNumber b then order c a b else oneBlank a b && isUnequal c
 
 -- the comparison that says the same with its sides exchanged
 abbrev pub turn : Comparison → Comparison
@@ -78,9 +93,6 @@ abbrev pub needsAll : Summary → Bool
 needsAll sum = true
 needsAll least = false
 needsAll greatest = false
-
-abbrev pub isBlank : ℕ → Bool
-isBlank x = eqb x blank
 
 -- the aggregate of the measured cells of the rows that pass: off scale where one of them is; else blank where one is blank and every cell is needed,
 -- whatever the numbers come to; else the summary of the numbers

@@ -1,6 +1,7 @@
 // Comparisons of cells.
+ghost use mathlib.Core.Bool.{_&&_};
 ghost use mathlib.Core.Path.{_≡_};
-ghost use Rattle.algebra.specs.Cells.{isNumber, compares};
+ghost use Rattle.algebra.specs.Cells.{isBlank, isNumber, isUnequal, order, compares};
 ghost use Rattle.reading.specs.Tree.{comparisonOf};
 
 // Whether a cell is neither blank nor off scale.
@@ -13,16 +14,10 @@ pub(crate) fn is_number(x: u32) -> bool
     x != 4294967295
 }
 
-// A comparison with a blank or off-scale side is false.
-pub(crate) fn compare(comparison: u8, a: u32, b: u32) -> bool
-    ensures { λ r. ⌜ r ≡ compares (comparisonOf comparison) a b ⌝ }
+// Whether two numbers stand in the order that a comparison asks for.
+pub(crate) fn ordered(comparison: u8, a: u32, b: u32) -> bool
+    ensures { λ r. ⌜ r ≡ order (comparisonOf comparison) a b ⌝ }
 {
-    if !is_number(a) {
-        return false;
-    }
-    if !is_number(b) {
-        return false;
-    }
     if comparison == 0 {
         return a == b;
     }
@@ -39,4 +34,32 @@ pub(crate) fn compare(comparison: u8, a: u32, b: u32) -> bool
         return b < a;
     }
     b <= a
+}
+
+// Whether a comparison holds of a number and a cell that is none, on either side: ≠ does, of a blank.
+pub(crate) fn beside_number(comparison: u8, x: u32) -> bool
+    ensures { λ r. ⌜ r ≡ isBlank x && isUnequal (comparisonOf comparison) ⌝ }
+{
+    if x != 0 {
+        return false;
+    }
+    comparison == 1
+}
+
+// Two numbers compare as they are ordered; a number and a blank are unequal; no other comparison with a blank or off-scale side holds.
+pub(crate) fn compare(comparison: u8, a: u32, b: u32) -> bool
+    ensures { λ r. ⌜ r ≡ compares (comparisonOf comparison) a b ⌝ }
+{
+    let left = is_number(a);
+    let right = is_number(b);
+    if left {
+        if right {
+            return ordered(comparison, a, b);
+        }
+        return beside_number(comparison, b);
+    }
+    if right {
+        return beside_number(comparison, a);
+    }
+    false
 }

@@ -4,11 +4,11 @@ use Rattle.reporting.proofs.cells.is_number.Tie as tie
 use Rattle.reporting.proofs.cells.is_number.Reads as reads
 use Rattle.reporting.proofs.cells.is_number.Lts as lts
 
--- src/cells.rt:11:9
+-- src/cells.rt:12:9
 returns : tie.Need-returns
 returns c = rw (c .if1 .taken)
 
--- src/cells.rt:7:1
+-- src/cells.rt:8:1
 returns-2 : tie.Need-returns-2
 returns-2 c = rw (ne-eqb (c .before .args .x) 0 (c .if1 .left))
 
