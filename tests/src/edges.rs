@@ -4,7 +4,7 @@ use crate::build::*;
 use crate::cells::{BLANK, LARGEST, OFF_SCALE};
 use crate::generate::Input;
 use crate::plan::Comparison::{AtLeast, AtMost, Equal, Greater, Less, NotEqual};
-use crate::plan::{Aggregate, Plan, ALWAYS};
+use crate::plan::{Aggregate, Plan, Test, ALWAYS, COMPARISONS};
 use crate::tables::Table;
 
 /// The paper's listing: tables, and the plan of Every over Distinct and Select.
@@ -20,6 +20,9 @@ fn club_plan() -> Plan {
     every(number_test(2, Greater, 30), distinct(&[0], scan(0, 0)), inner)
 }
 
+/// Cells of each sort: numbers at the ends of the range and around 0, blank, off scale.
+const ENDS: [i32; 6] = [-LARGEST, LARGEST, BLANK, OFF_SCALE, 0, -1];
+
 /// All edges.
 pub fn edges() -> Vec<(&'static str, Input)> {
     let mut all = Vec::new();
@@ -32,8 +35,7 @@ pub fn edges() -> Vec<(&'static str, Input)> {
     add("16 columns", vec![sized(16, 2)], scan(0, 100));
     add("no rows", vec![sized(5, 0)], scan(0, 0));
     add("1,000 rows", vec![sized(1, 1000)], scan(0, 0));
-    let ends = [-LARGEST, LARGEST, BLANK, OFF_SCALE, 0, -1];
-    add("cells at the ends of the range", vec![one_column(&ends)], scan(0, 0));
+    add("cells at the ends of the range", vec![one_column(&ENDS)], scan(0, 0));
     add("Cross 64 x 64", vec![sized(1, 64)], cross(scan(0, 0), scan(0, 1)));
     add("Each 64 x 64", vec![sized(1, 64)], each(scan(0, 0), scan(0, 1)));
     add("Cross 1,000 x 4", vec![sized(1, 1000), sized(2, 4)], cross(scan(0, 0), scan(1, 1)));
@@ -91,6 +93,9 @@ pub fn edges() -> Vec<(&'static str, Input)> {
     let club = club();
     add("the listing", club.tables, club.plan);
     all.extend(aggregates());
+    all.extend(comparisons_by_tests());
+    all.extend(comparisons_by_keys());
+    all.extend(comparisons_of_cards());
     all
 }
 
@@ -144,6 +149,75 @@ fn aggregates() -> Vec<(&'static str, Input)> {
         ("sums that are no numbers, sorted", sort(false, &[20], no_numbers)),
     ]
     .map(|(name, plan)| (name, Input { tables: vec![cards_with_blanks(), one_column(&[20, 13, 21, 12, 20])], plan }))
+    .to_vec()
+}
+
+/// A plan's rows, each with 1 or 0 for each test: whether the row passes it.
+fn outcomes(tests: &[Test], plan: Plan) -> Plan {
+    let with_outcome = |plan, (new, test): (u8, &Test)| fold(Aggregate::Count, new, *test, plan, Plan::Unit);
+    (10..).zip(tests).fold(plan, with_outcome)
+}
+
+/// Tests that compare cells of every sort, with a number and two by two.
+fn comparisons_by_tests() -> Vec<(&'static str, Input)> {
+    let every_two = ENDS.iter().flat_map(|&left| ENDS.map(|right| vec![left, right])).collect();
+    let tables = vec![one_column(&ENDS), Table { columns: 2, rows: every_two }];
+    let with_number = |number| COMPARISONS.map(|comparison| number_test(0, comparison, number));
+    let not_with_0 = with_number(0).map(|test| test.not_turned());
+    let numbers = [with_number(0), not_with_0, with_number(-LARGEST), with_number(LARGEST)].concat();
+    let columns = COMPARISONS.map(|comparison| columns_test(0, comparison, 1));
+    let both_marks = [columns, columns.map(|test| test.not_turned())].concat();
+    let unequal = columns_test(0, NotEqual, 1);
+    [
+        ("all comparisons of a column with a number", outcomes(&numbers, scan(0, 0))),
+        ("all comparisons of two columns", outcomes(&both_marks, scan(1, 0))),
+        ("two columns that are not equal", select(unequal, scan(1, 0))),
+        ("a not-marked test of columns that are not equal", select(unequal.not_turned(), scan(1, 0))),
+    ]
+    .map(|(name, plan)| (name, Input { tables: tables.clone(), plan }))
+    .to_vec()
+}
+
+/// Keys of every sort, compared. Each right row has a power of 2, so that a sum tells which right rows a value meets.
+fn comparisons_by_keys() -> Vec<(&'static str, Input)> {
+    let powers = ENDS.iter().zip(0..).map(|(&cell, place)| vec![cell, 1 << place]).collect();
+    let tables = vec![one_column(&ENDS), Table { columns: 2, rows: powers }];
+    let sum = |id: u8| Aggregate::Sum(id + 1);
+    let with_pair = |left, (comparison, id)| pair(sum(id), id + 2, keys(0, comparison, id), left, scan(1, id));
+    let paired = COMPARISONS.into_iter().zip((10..).step_by(10)).fold(scan(0, 0), with_pair);
+    let grouped = |comparison, id| group(sum(id), id + 2, keys(id + 3, comparison, id), scan(1, id));
+    let folded = |left, test, id| fold(sum(id), id + 2, ALWAYS, left, select(test, scan(1, id)));
+    let e_left = folded(distinct(&[0], scan(0, 0)), columns_test(0, NotEqual, 10), 10);
+    let e_right = folded(e_left, columns_test(20, NotEqual, 0), 20);
+    let not_marked = folded(e_right, columns_test(0, NotEqual, 30).not_turned(), 30);
+    [
+        ("all comparisons of keys by Pairs", paired),
+        ("≠ and < of keys by Groups", cross(grouped(NotEqual, 10), grouped(Less, 20))),
+        ("Folds over a Select of ≠, with e's column left, right, and under a not-mark", not_marked),
+    ]
+    .map(|(name, plan)| (name, Input { tables: tables.clone(), plan }))
+    .to_vec()
+}
+
+/// Some and Every with a ≠ over cards that are blank or off scale, alone and beside a number that passes or does not.
+fn comparisons_of_cards() -> Vec<(&'static str, Input)> {
+    let scores: [(i32, &[i32]); 7] = [
+        (1, &[36, BLANK]),
+        (2, &[10, BLANK]),
+        (3, &[BLANK]),
+        (4, &[10]),
+        (5, &[OFF_SCALE, 12]),
+        (6, &[OFF_SCALE]),
+        (7, &[12]),
+    ];
+    let not_10 = number_test(12, NotEqual, 10);
+    let players = || distinct(&[0], scan(0, 0));
+    let cards_of = || select(columns_test(0, Equal, 10), scan(0, 10));
+    [
+        ("Every with ≠ over blanks", every(not_10, players(), cards_of())),
+        ("Some with a not-marked ≠ over blanks", some(not_10.not_turned(), players(), cards_of())),
+    ]
+    .map(|(name, plan)| (name, Input { tables: vec![cards(&scores, &[])], plan }))
     .to_vec()
 }
 

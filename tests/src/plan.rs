@@ -1,6 +1,6 @@
 //! Plans as trees.
 
-use crate::cells::is_number;
+use crate::cells::{BLANK, OFF_SCALE};
 
 /// How two cells are compared.
 #[derive(Clone, Copy, Debug, PartialEq, Eq)]
@@ -24,18 +24,27 @@ pub const COMPARISONS: [Comparison; 6] = [
 ];
 
 impl Comparison {
-    /// Whether it holds. With a blank or off-scale side it never does.
+    /// Whether it holds. With a blank or off-scale side it does not, except that a ≠ with exactly one blank side does, unless the
+    /// other side is off scale.
     pub fn holds(self, left: i32, right: i32) -> bool {
-        is_number(left)
-            && is_number(right)
-            && match self {
-                Comparison::Equal => left == right,
-                Comparison::NotEqual => left != right,
-                Comparison::Less => left < right,
-                Comparison::AtMost => left <= right,
-                Comparison::Greater => left > right,
-                Comparison::AtLeast => left >= right,
-            }
+        match (left, right) {
+            (OFF_SCALE, _) | (_, OFF_SCALE) => false,
+            (BLANK, BLANK) => false,
+            (BLANK, _) | (_, BLANK) => self == Comparison::NotEqual,
+            _ => self.holds_of_numbers(left, right),
+        }
+    }
+
+    /// Whether it holds of two numbers.
+    fn holds_of_numbers(self, left: i32, right: i32) -> bool {
+        match self {
+            Comparison::Equal => left == right,
+            Comparison::NotEqual => left != right,
+            Comparison::Less => left < right,
+            Comparison::AtMost => left <= right,
+            Comparison::Greater => left > right,
+            Comparison::AtLeast => left >= right,
+        }
     }
 
     /// The same comparison with its sides exchanged (mirrored, not negated).

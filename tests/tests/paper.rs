@@ -8,7 +8,7 @@ use second::edges::{club, edges, every_kind};
 use second::generate::Input;
 use second::nodes::{write_plan, HEADER, NODE};
 use second::plan::Comparison::{AtLeast, AtMost, Equal, Greater, Less, NotEqual};
-use second::plan::{Aggregate, Comparison, Plan, Test, ALWAYS};
+use second::plan::{Aggregate, Comparison, Plan, Test, ALWAYS, COMPARISONS};
 use second::rules::{fit, free_id, stay_position, try_step, weight};
 use second::tables::{write_set, Table};
 
@@ -401,7 +401,7 @@ fn k2_a_blank_that_passes_makes_the_sum_blank() {
 
 #[test]
 fn k2_a_blank_that_fails_the_test_counts_nowhere() {
-    // A test with a blank side fails too. Where no row passes the sum is 0.
+    // A = with a blank side fails too. Where no row passes the sum is 0.
     let cards = table(&[&[7, 0, BLANK], &[7, 1, 36], &[9, BLANK, BLANK], &[7, 1, 4], &[4, 1, BLANK], &[7, 2, BLANK]]);
     all_three_give(&cards, Aggregate::Sum(12), Equal, &[[7, 40], [9, 0], [4, BLANK]]);
     all_three_give(&cards, Aggregate::Count, Equal, &[[7, 2], [9, 0], [4, 1]]);
@@ -411,7 +411,7 @@ fn k2_a_blank_that_fails_the_test_counts_nowhere() {
 
 #[test]
 fn k2_a_blank_whose_key_is_not_met_counts_nowhere() {
-    // A blank or off-scale key is met by no value, its own row's included.
+    // By = a blank or off-scale key is met by no value, its own row's included.
     let cards = table(&[&[BLANK, 1, BLANK], &[7, 1, 3], &[OFF_SCALE, 1, BLANK], &[BLANK, 1, 5], &[9, 1, BLANK]]);
     let expected = [[BLANK, 0], [7, 3], [OFF_SCALE, 0], [9, BLANK]];
     all_three_give(&cards, Aggregate::Sum(12), Equal, &expected);
@@ -669,6 +669,236 @@ fn k8_codes_decide_where_the_sequences_differ() {
     // A blank is a value, not an end.
     assert_eq!(note(&[7, BLANK], &[7]), Some(1));
     assert_eq!(note(&[7], &[7, BLANK]), Some(1));
+}
+
+#[test]
+fn k9_the_whole_table_of_comparisons() {
+    // Two sides, and which of the six comparisons hold of them.
+    let sides: [(i32, i32, &[Comparison]); 11] = [
+        (3, 4, &[NotEqual, Less, AtMost]),
+        (4, 4, &[Equal, AtMost, AtLeast]),
+        (4, 3, &[NotEqual, Greater, AtLeast]),
+        (4, BLANK, &[NotEqual]),
+        (BLANK, 4, &[NotEqual]),
+        (BLANK, BLANK, &[]),
+        (4, OFF_SCALE, &[]),
+        (OFF_SCALE, 4, &[]),
+        (BLANK, OFF_SCALE, &[]),
+        (OFF_SCALE, BLANK, &[]),
+        (OFF_SCALE, OFF_SCALE, &[]),
+    ];
+    let check = |left, right, holding: &[Comparison]| {
+        for comparison in COMPARISONS {
+            let expected = holding.contains(&comparison);
+            assert_eq!(comparison.holds(left, right), expected, "{left} {comparison:?} {right}");
+            assert_eq!(comparison.turned().holds(right, left), expected, "{right} turned {comparison:?} {left}");
+        }
+    };
+    for (left, right, holding) in sides {
+        check(left, right, holding);
+    }
+    // A blank beside the numbers at the ends of the range and around 0.
+    for number in [-LARGEST, -1, 0, 1, LARGEST] {
+        check(BLANK, number, &[NotEqual]);
+        check(OFF_SCALE, number, &[]);
+    }
+}
+
+#[test]
+fn k9_handicap_not_10_includes_members_without_a_handicap() {
+    let members = [10, 12, BLANK, OFF_SCALE, 10];
+    let kept = |test| rows(&[one_column(&members)], &select(test, scan(0, 0))).concat();
+    let (is_10, not_10) = (number_test(0, Equal, 10), number_test(0, NotEqual, 10));
+    assert_eq!(kept(not_10), [12, BLANK]);
+    assert_eq!(kept(not_10.not_turned()), [10, OFF_SCALE, 10]);
+    // = and ≠ are no complements of each other: off scale is neither.
+    assert_eq!(kept(is_10), [10, 10]);
+    assert_eq!(kept(is_10.not_turned()), [12, BLANK, OFF_SCALE]);
+    for number in [-LARGEST, 0, LARGEST] {
+        assert_eq!(kept(number_test(0, NotEqual, number)), [10, 12, BLANK, 10]);
+    }
+}
+
+#[test]
+fn k9_two_columns_that_are_not_equal() {
+    let same = table(&[&[7, 7], &[BLANK, BLANK], &[OFF_SCALE, OFF_SCALE]]);
+    let beside_off_scale = table(&[&[OFF_SCALE, 7], &[7, OFF_SCALE], &[BLANK, OFF_SCALE], &[OFF_SCALE, BLANK]]);
+    let different = table(&[&[7, 9], &[BLANK, 7], &[7, BLANK]]);
+    let kept = |table: &Table, test| rows(&[table.clone()], &select(test, scan(0, 0)));
+    for test in [columns_test(0, NotEqual, 1), columns_test(1, NotEqual, 0)] {
+        assert_eq!(kept(&different, test), different.rows);
+        assert_eq!(kept(&different, test.not_turned()).len(), 0);
+        for table in [&same, &beside_off_scale] {
+            assert_eq!(kept(table, test).len(), 0);
+            assert_eq!(kept(table, test.not_turned()), table.rows);
+        }
+    }
+    // A column with itself.
+    let itself = columns_test(0, NotEqual, 0);
+    assert_eq!(kept(&different, itself).len(), 0);
+    assert_eq!(kept(&different, itself.not_turned()), different.rows);
+}
+
+/// Checks that unnesting takes these rules, each at place 0, and that all plans on the way give these rows.
+fn unnests_by<const WIDTH: usize>(tables: &[Table], plan: &Plan, rules: &[u8], expected: &[[i32; WIDTH]]) {
+    let (steps, passed) = unnest_tree(plan, tables);
+    assert_eq!(steps, rules.iter().map(|&rule| (rule, 0)).collect::<Vec<_>>());
+    for plan in passed {
+        assert_eq!(rows(tables, &plan), expected, "{plan:?}");
+    }
+}
+
+#[test]
+fn k9_some_and_every_with_a_number() {
+    let scores: [(i32, &[i32]); 6] =
+        [(7, &[36, BLANK]), (9, &[10, BLANK]), (4, &[BLANK]), (5, &[10]), (6, &[OFF_SCALE, 12]), (8, &[OFF_SCALE])];
+    let tables = [cards(&scores, &[])];
+    let players = || distinct(&[0], scan(0, 0));
+    let cards_of = || select(columns_test(0, Equal, 10), scan(0, 10));
+    let (is_10, not_10) = (number_test(12, Equal, 10), number_test(12, NotEqual, 10));
+    let of_all = |test| every(test, players(), cards_of());
+    let of_one = |test| some(test, players(), cards_of());
+    // A blank card passes, an off-scale one does not; not-marked it is the other way round.
+    unnests_by(&tables, &of_all(not_10), &[2, 7, 4], &[[7], [4]]);
+    unnests_by(&tables, &of_all(not_10.not_turned()), &[2, 7, 4], &[[5], [8]]);
+    unnests_by(&tables, &of_one(not_10), &[1, 7, 3], &[[7], [9], [4], [6]]);
+    unnests_by(&tables, &of_one(not_10.not_turned()), &[1, 7, 3], &[[9], [5], [6], [8]]);
+    // Off scale is neither equal nor not equal, so U2 turns the not-mark and leaves the comparison as it is; U7 moves the test so.
+    unnests_by(&tables, &of_all(is_10), &[2, 7, 4], &[[5]]);
+    unnests_by(&tables, &of_all(is_10.not_turned()), &[2, 7, 4], &[[7], [4], [6], [8]]);
+    for test in [not_10, not_10.not_turned(), is_10] {
+        let without = anti(0, 10, test.not_turned(), players(), scan(0, 10));
+        assert_eq!(fit(&of_all(test), 0, &tables), Some((2, without.clone())));
+        let moved = anti(0, 10, ALWAYS, players(), select(test.not_turned(), scan(0, 10)));
+        assert_eq!(fit(&without, 0, &tables), Some((7, moved)));
+    }
+}
+
+#[test]
+fn k9_some_and_every_with_a_column_of_the_left_row() {
+    // Members with their handicaps, and their cards.
+    let members = table(&[&[1, 10], &[2, BLANK], &[3, BLANK], &[4, OFF_SCALE], &[5, 10]]);
+    let scores: [(i32, &[i32]); 5] =
+        [(1, &[12, BLANK]), (2, &[10, 12]), (3, &[BLANK, 10]), (4, &[10, BLANK]), (5, &[OFF_SCALE, BLANK])];
+    let tables = [members, cards(&scores, &[])];
+    let cards_of = || select(columns_test(0, Equal, 10), scan(1, 10));
+    for test in [columns_test(1, NotEqual, 12), columns_test(12, NotEqual, 1)] {
+        let of_all = |test| every(test, scan(0, 0), cards_of());
+        unnests_by(&tables, &of_all(test), &[2], &[[1, 10], [2, BLANK]]);
+        unnests_by(&tables, &of_all(test.not_turned()), &[2], &[[4, OFF_SCALE]]);
+        let of_one = |test| some(test, scan(0, 0), cards_of());
+        unnests_by(&tables, &of_one(test), &[1], &[[1, 10], [2, BLANK], [3, BLANK], [5, 10]]);
+        unnests_by(&tables, &of_one(test.not_turned()), &[1], &[[3, BLANK], [4, OFF_SCALE], [5, 10]]);
+    }
+}
+
+/// Checks count, sum and least that the Fold, the Pair and the Group give each player, over the player's cards that pass a test.
+fn all_three_give_under(cards: &Table, test: Test, expected: &[[i32; 4]]) {
+    let aggregates = [Aggregate::Count, Aggregate::Sum(12), Aggregate::Least(12)];
+    for (place, aggregate) in aggregates.into_iter().enumerate() {
+        let of_players: Vec<[i32; 2]> = expected.iter().map(|row| [row[0], row[1 + place]]).collect();
+        for plan in by_player(aggregate, Equal) {
+            assert_eq!(rows(&[cards.clone()], &with_test(plan, test)), of_players, "{aggregate:?}, {test:?}");
+        }
+    }
+}
+
+#[test]
+fn k9_aggregates_of_the_rows_that_pass() {
+    // A player, a handicap and a score.
+    let cards = table(&[
+        &[7, 10, 1],
+        &[7, BLANK, 2],
+        &[7, 12, 4],
+        &[9, BLANK, 5],
+        &[9, OFF_SCALE, 3],
+        &[4, OFF_SCALE, 9],
+        &[4, 10, 8],
+        &[5, BLANK, BLANK],
+        &[5, 11, 6],
+        &[6, 3, BLANK],
+        &[6, 4, 4],
+    ]);
+    let not_10 = number_test(11, NotEqual, 10);
+    let passing = [[7, 2, 6, 2], [9, 1, 5, 5], [4, 0, 0, BLANK], [5, 2, BLANK, 6], [6, 2, BLANK, 4]];
+    all_three_give_under(&cards, not_10, &passing);
+    let others = [[7, 1, 1, 1], [9, 1, 3, 3], [4, 2, 17, 8], [5, 0, 0, BLANK], [6, 0, 0, BLANK]];
+    all_three_give_under(&cards, not_10.not_turned(), &others);
+    // The handicap with the score.
+    let two_columns = columns_test(11, NotEqual, 12);
+    let passing = [[7, 3, 7, 1], [9, 1, 5, 5], [4, 1, 8, 8], [5, 1, 6, 6], [6, 1, BLANK, BLANK]];
+    all_three_give_under(&cards, two_columns, &passing);
+    let others = [[7, 0, 0, BLANK], [9, 1, 3, 3], [4, 1, 9, 9], [5, 1, BLANK, BLANK], [6, 1, 4, 4]];
+    all_three_give_under(&cards, two_columns.not_turned(), &others);
+    // The score itself: a blank one passes, and makes the sum blank.
+    let not_8 = number_test(12, NotEqual, 8);
+    let passing = [[7, 3, 7, 1], [9, 2, 8, 3], [4, 1, 9, 9], [5, 2, BLANK, 6], [6, 2, BLANK, 4]];
+    all_three_give_under(&cards, not_8, &passing);
+}
+
+/// Cards of players, some of them without a number, and one card that does not count.
+fn cards_of_anybody() -> Table {
+    table(&[&[7, 1, 1], &[BLANK, 1, 2], &[9, 1, 4], &[OFF_SCALE, 1, 8], &[BLANK, 1, 16], &[7, 1, 32], &[BLANK, 0, 64]])
+}
+
+#[test]
+fn k9_keys_that_are_not_equal() {
+    let cards = cards_of_anybody();
+    // A blank value meets the numbers, a number meets the blanks and the other numbers, off scale meets nothing. U5 makes the Pair of the
+    // Fold, and U6 the Group of the Pair, with a blank among the keys.
+    let [folded, ..] = by_player(Aggregate::Sum(12), NotEqual);
+    unnests_by(&[cards.clone()], &folded, &[5, 6], &[[7, 22], [BLANK, 37], [9, 51], [OFF_SCALE, 0]]);
+    all_three_give(&cards, Aggregate::Count, NotEqual, &[[7, 3], [BLANK, 3], [9, 4], [OFF_SCALE, 0]]);
+    all_three_give(&cards, Aggregate::Least(12), NotEqual, &[[7, 2], [BLANK, 1], [9, 1], [OFF_SCALE, BLANK]]);
+    all_three_give(&cards, Aggregate::Greatest(12), NotEqual, &[[7, 16], [BLANK, 32], [9, 32], [OFF_SCALE, BLANK]]);
+    // Right keys that are all blank, all off scale, all one number.
+    let left = one_column(&[BLANK, 7, OFF_SCALE, 9]);
+    for (key, counts) in [(BLANK, [0, 2, 0, 2]), (OFF_SCALE, [0; 4]), (7, [2, 0, 0, 2])] {
+        let tables = [left.clone(), one_column(&[key; 2])];
+        let paired = pair(Aggregate::Count, 9, keys(0, NotEqual, 1), scan(0, 0), scan(1, 1));
+        assert_eq!(rows(&tables, &project(&[9], paired)).concat(), counts);
+    }
+}
+
+#[test]
+fn k9_keys_that_are_compared_otherwise_meet_no_blank() {
+    let cards = cards_of_anybody();
+    for (comparison, of_7, of_9) in [(Equal, 2, 1), (Less, 1, 0), (AtMost, 3, 1), (Greater, 0, 2), (AtLeast, 2, 3)] {
+        let counts = [[7, of_7], [BLANK, 0], [9, of_9], [OFF_SCALE, 0]];
+        all_three_give(&cards, Aggregate::Count, comparison, &counts);
+    }
+    let tables = [one_column(&[BLANK, 7, OFF_SCALE, 5]), cards];
+    assert_eq!(rows(&tables, &semi(0, 10, ALWAYS, scan(0, 0), scan(1, 10))), [[7]]);
+    assert_eq!(rows(&tables, &anti(0, 10, ALWAYS, scan(0, 0), scan(1, 10))), [[BLANK], [OFF_SCALE], [5]]);
+}
+
+#[test]
+fn k9_u5_takes_not_equal_either_way_round() {
+    let cards = table(&[&[7, 1], &[BLANK, 2], &[9, 4], &[OFF_SCALE, 8], &[BLANK, 16]]);
+    let tables = [one_column(&[7, BLANK, OFF_SCALE, BLANK, 9]), cards];
+    let folded = |test| fold(Aggregate::Sum(2), 5, ALWAYS, scan(0, 0), select(test, scan(1, 1)));
+    let paired = pair(Aggregate::Sum(2), 5, keys(0, NotEqual, 1), scan(0, 0), scan(1, 1));
+    for test in [columns_test(0, NotEqual, 1), columns_test(1, NotEqual, 0)] {
+        assert_eq!(fit(&folded(test), 0, &tables), Some((5, paired.clone())));
+        unnests_by(&tables, &folded(test), &[5], &[[7, 22], [BLANK, 5], [OFF_SCALE, 0], [BLANK, 5], [9, 19]]);
+        // A not-marked ≠ is no comparison, so no rule takes it: blank meets blank there, and off scale meets all.
+        let others = [[7, 9], [BLANK, 26], [OFF_SCALE, 31], [BLANK, 26], [9, 12]];
+        unnests_by(&tables, &folded(test.not_turned()), &[], &others);
+    }
+}
+
+#[test]
+fn k9_blanks_that_a_plan_makes() {
+    let tables = [one_column(&[7, 9]), table(&[&[7, 36], &[7, 30]])];
+    let cards_of = || select(columns_test(0, Equal, 1), scan(1, 1));
+    // Player 9 has no card.
+    let eaches = |test| rows(&tables, &select(test, each(scan(0, 0), cards_of())));
+    assert_eq!(eaches(number_test(2, NotEqual, 36)), [[7, 7, 30], [9, BLANK, BLANK]]);
+    assert_eq!(eaches(columns_test(0, NotEqual, 1)), [[9, BLANK, BLANK]]);
+    assert_eq!(eaches(columns_test(1, NotEqual, 2)), [[7, 7, 36], [7, 7, 30]]);
+    let least = |test| rows(&tables, &select(test, fold(Aggregate::Least(2), 5, ALWAYS, scan(0, 0), cards_of())));
+    assert_eq!(least(number_test(5, NotEqual, 30)), [[9, BLANK]]);
+    assert_eq!(least(number_test(5, NotEqual, 30).not_turned()), [[7, 30]]);
 }
 
 #[test]
