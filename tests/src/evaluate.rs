@@ -124,6 +124,12 @@ pub fn rows(plan: &Plan, tables: &[Table], outer: Option<&Scope>) -> Vec<Vec<i32
     }
 }
 
+/// The cells that a closed plan gives in one of its columns.
+pub fn column_cells(plan: &Plan, id: u8, tables: &[Table]) -> Vec<i32> {
+    let place = place_of(id, &columns(plan, tables));
+    rows(plan, tables, None).into_iter().map(|row| row[place]).collect()
+}
+
 /// The rows of a node with one child, from the child's rows.
 fn over_child(plan: &Plan, given: Vec<Vec<i32>>, ids: &[u8], outer: Option<&Scope>) -> Vec<Vec<i32>> {
     match plan {

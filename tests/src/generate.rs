@@ -636,6 +636,41 @@ fn rows_to_sum(random: &mut Random) -> (Plan, u8, u8) {
     }
 }
 
+/// A plan whose first node compares, mostly by ≠, cells that are often blank or off scale: in its test, in that of its inner plan, or as
+/// keys.
+pub fn unequal(random: &mut Random) -> Input {
+    let tables = vec![scores(random), scores(random)];
+    let comparison = if random.chance(80) { Comparison::NotEqual } else { random.pick(&COMPARISONS) };
+    let key: u8 = random.pick(&[10, 11, 12]);
+    // The left rows are the values of the right key, as U3, U4 and U6 need them, or those of the other table.
+    let (left, own) = if random.chance(60) {
+        (distinct(&[key - 10], scan(1, 0)), key - 10)
+    } else {
+        (scan(0, 0), random.pick(&[0, 1, 2]))
+    };
+    let form = match random.below(3) {
+        0 => columns_test(own, comparison, 12),
+        1 => columns_test(12, comparison, 11),
+        _ => number_test(12, comparison, random.pick(&[1, LARGEST, -LARGEST])),
+    };
+    let test = Test { not: random.chance(30), ..form };
+    let (right, own_test) = (scan(1, 10), random.pick(&[ALWAYS, test]));
+    let aggregate = random.pick(&[Aggregate::Count, Aggregate::Sum(12), Aggregate::Least(12)]);
+    let sides = if random.chance(50) { columns_test(own, comparison, key) } else { columns_test(key, comparison, own) };
+    let same_key = select(columns_test(own, Comparison::Equal, key), right.clone());
+    let plan = match random.below(10) {
+        0..=1 => select(test, cross(left, right)),
+        2 => some(test, left, same_key),
+        3 => every(test, left, same_key),
+        4 => semi(own, key, test, left, right),
+        5 => anti(own, key, test, left, right),
+        6 => fold(aggregate, 50, own_test, left, select(Test { not: random.chance(10), ..sides }, right)),
+        7 => with_test(pair(aggregate, 50, keys(own, comparison, key), left, right), own_test),
+        _ => group(aggregate, 50, keys(51, comparison, key), right),
+    };
+    Input { tables, plan }
+}
+
 /// A list of steps to try on a plan: some fit where they stand, some do not.
 pub fn steps(random: &mut Random, input: &Input) -> Vec<(u8, u8)> {
     let mut plan = input.plan.clone();

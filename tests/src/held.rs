@@ -9,9 +9,10 @@ use crate::cases::{damaged_once, fault_case};
 use crate::cells::{BLANK, OFF_SCALE};
 use crate::check::need;
 use crate::damage::{faults, Fault};
-use crate::generate::{accepted, code, common_beginning, steps, totals, Input};
-use crate::plan::Comparison::Equal;
-use crate::plan::{Aggregate, Plan, COMPARISONS};
+use crate::evaluate::{column_cells, first_occurrences};
+use crate::generate::{accepted, code, common_beginning, steps, totals, unequal, Input};
+use crate::plan::Comparison::{Equal, NotEqual};
+use crate::plan::{Aggregate, Form, Plan, Test, COMPARISONS};
 use crate::random::Random;
 use crate::rules::{sequences, stay_position};
 use crate::tables::Table;
@@ -34,6 +35,8 @@ pub struct Counts {
     pub ended: usize,
     /// Sums that a plan's first node took: those that are numbers, blank, off scale.
     pub sums: [usize; 3],
+    /// Sides that a plan's first node compared by ≠, in a Select, a Pair and a Group: one blank, both blank, one or both off scale.
+    pub unequal: [[usize; 3]; 3],
 }
 
 impl Counts {
@@ -53,8 +56,31 @@ impl Counts {
             + &format!("notes with position 0 {}, with a later one {}, ", self.notes[0], self.notes[1])
             + &format!("where just one sequence has ended {}\n", self.ended)
             + &format!("sums that are numbers {}, blank {}, off scale {}\n", self.sums[0], self.sums[1], self.sums[2])
+            + &self.unequal_line()
             + &format!("steps of the unnesting call{}\n", by_rule(&self.rules))
             + &format!("tried steps that fitted{}, that did not {}\n", by_rule(&self.tried), self.tried[0])
+    }
+
+    /// The counts of sides compared by ≠, as a line of text.
+    pub fn unequal_line(&self) -> String {
+        let of_kind = |(kind, [one, both, off_scale]): (&str, [usize; 3])| {
+            format!("in a {kind} one blank {one}, both blank {both}, off scale {off_scale}")
+        };
+        let kinds = ["Select", "Pair", "Group"].into_iter().zip(self.unequal).map(of_kind);
+        format!("sides of ≠: {}\n", kinds.collect::<Vec<_>>().join("; "))
+    }
+
+    /// Counts the sides that the first node of an accepted plan compares by ≠. Two numbers are not counted.
+    fn count_unequal(&mut self, plan: &Plan, tables: &[Table]) {
+        let Some((kind, sides)) = unequal_sides(plan, tables) else { return };
+        for sides in sides {
+            match sides {
+                (OFF_SCALE, _) | (_, OFF_SCALE) => self.unequal[kind][2] += 1,
+                (BLANK, BLANK) => self.unequal[kind][1] += 1,
+                (BLANK, _) | (_, BLANK) => self.unequal[kind][0] += 1,
+                _ => {}
+            }
+        }
     }
 
     /// Counts the sums that the first node of an accepted plan takes: they stand last in the report's rows.
@@ -75,6 +101,30 @@ impl Counts {
     }
 }
 
+/// The sides that the first node of an accepted plan compares by ≠, for a Select (0), a Pair (1) and a Group (2).
+fn unequal_sides(plan: &Plan, tables: &[Table]) -> Option<(usize, Vec<(i32, i32)>)> {
+    let cells = |child: &Plan, id: u8| column_cells(child, id, tables);
+    let every_two = |left: Vec<i32>, right: Vec<i32>| -> Vec<(i32, i32)> {
+        left.iter().flat_map(|&one| right.iter().map(move |&other| (one, other))).collect()
+    };
+    match plan {
+        Plan::Select { test: Test { form: Form::Columns(NotEqual, left, right), .. }, child } => {
+            Some((0, cells(child, *left).into_iter().zip(cells(child, *right)).collect()))
+        }
+        Plan::Select { test: Test { form: Form::Number(NotEqual, left, number), .. }, child } => {
+            Some((0, every_two(cells(child, *left), vec![*number])))
+        }
+        Plan::Pair { keys, left, right, .. } if keys.comparison == NotEqual => {
+            Some((1, every_two(cells(left, keys.left), cells(right, keys.right))))
+        }
+        Plan::Group { keys, child, .. } if keys.comparison == NotEqual => {
+            let right_keys = cells(child, keys.right);
+            Some((2, every_two(first_occurrences(&right_keys), right_keys)))
+        }
+        _ => None,
+    }
+}
+
 /// Holds so many inputs against the second evaluator, those of the seed and the ones after it. The first difference ends it.
 pub fn hold_seeds(seed: u64, count: u64, counts: &mut Counts) -> Result<(), String> {
     let faults = faults();
@@ -89,7 +139,8 @@ pub fn hold_seeds(seed: u64, count: u64, counts: &mut Counts) -> Result<(), Stri
 /// A random input: accepted; with one fault or two; or with bytes changed, cut off or put on anywhere.
 fn drawn(random: &mut Random, faults: &[Fault]) -> (Vec<u8>, Vec<u8>) {
     match random.below(100) {
-        0..=54 => bytes_of(&accepted(random)),
+        0..=52 => bytes_of(&accepted(random)),
+        53..=54 => bytes_of(&unequal(random)),
         55..=56 => bytes_of(&totals(random)),
         57..=58 => bytes_of(&common_beginning(random)),
         59 => bytes_of(&large(random)),
@@ -187,6 +238,7 @@ pub fn hold_report(random: &mut Random, set: &[u8], plan: &[u8], counts: &mut Co
         Ok((tables, tree)) => {
             let report = calls::report_of(&tree, &tables);
             counts.count_sums(&tree, &report);
+            counts.count_unequal(&tree, &tables);
             (report.codes.len(), need(&tree, &tables) as usize)
         }
         Err(_) => (random.below(9), random.below(5000)),

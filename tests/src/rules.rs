@@ -1,7 +1,7 @@
 //! The eight unnestings, weights, and the position that a stay note gives.
 
 use crate::check::{columns, introduced, read_plan};
-use crate::evaluate::{first_occurrences, rows};
+use crate::evaluate::{column_cells, first_occurrences, rows};
 use crate::nodes::write_plan;
 use crate::plan::{Aggregate, Comparison, Form, Keys, Plan, Test, ALWAYS};
 use crate::tables::Table;
@@ -241,9 +241,7 @@ pub fn is_closed(plan: &Plan, tables: &[Table]) -> bool {
 /// The values of e, which has one column, and the first occurrences of a column of h. Both are closed.
 fn key_sequences(e: &Plan, h: &Plan, key: u8, tables: &[Table]) -> (Vec<i32>, Vec<i32>) {
     let values = rows(e, tables, None).into_iter().map(|row| row[0]).collect();
-    let place = columns(h, tables).iter().position(|&id| id == key).expect("a column of h");
-    let keys: Vec<i32> = rows(h, tables, None).into_iter().map(|row| row[place]).collect();
-    (values, first_occurrences(&keys))
+    (values, first_occurrences(&column_cells(h, key, tables)))
 }
 
 /// The smallest id introduced nowhere in the plan.

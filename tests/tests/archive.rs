@@ -6,13 +6,13 @@ mod held {
     use second::build::*;
     use second::calls::need_of;
     use second::cases::cases;
-    use second::cells::{BLANK, LARGEST, OFF_SCALE};
+    use second::cells::{is_number, BLANK, LARGEST, OFF_SCALE};
     use second::edges::edges;
     use second::generate::Input;
     use second::held::{hold, hold_report, hold_seeds, Counts};
     use second::nodes::write_plan;
-    use second::plan::Aggregate;
     use second::plan::Comparison::Equal;
+    use second::plan::{Aggregate, Comparison, Plan, COMPARISONS};
     use second::random::Random;
     use second::tables::{write_set, Table};
 
@@ -33,6 +33,7 @@ mod held {
         assert!(met(&counts.rules[1..], 200), "{:?}", counts.rules);
         assert!(met(&counts.notes, 100) && counts.ended >= 100, "{:?}, {}", counts.notes, counts.ended);
         assert!(met(&counts.sums, 200), "{:?}", counts.sums);
+        assert!(counts.unequal.iter().all(|sides| met(sides, 100)), "{:?}", counts.unequal);
     }
 
     #[test]
@@ -94,7 +95,7 @@ mod held {
         assert!(counts.iter().all(|&count| count > 2_000), "{counts:?}");
     }
 
-    /// Cells that decide an aggregate: the two codes that are no numbers, the ends of the range, 1 and 0.
+    /// Cells that decide an aggregate or a comparison: the two codes that are no numbers, the ends of the range, 1 and 0.
     const CELLS: [i32; 6] = [BLANK, OFF_SCALE, LARGEST, -LARGEST, 1, 0];
 
     /// All lists of up to four of them.
@@ -133,6 +134,38 @@ mod held {
         let [numbers, blank, off_scale] = counts.sums;
         println!("sums of short lists: numbers {numbers}, blank {blank}, off scale {off_scale}");
         assert!(counts.sums.iter().all(|&count| count > 500), "{:?}", counts.sums);
+    }
+
+    /// Plans that compare a left cell with a right one, over a table of these two as a row and one of a row for each, numbered 1 and 2: by
+    /// a test of columns, and of a number where the right cell is one, without and with a not-mark; by the keys of a Pair and of a Group.
+    fn comparing(comparison: Comparison, right: i32) -> Vec<Plan> {
+        let mut tests = vec![columns_test(0, comparison, 1)];
+        if is_number(right) {
+            tests.push(number_test(0, comparison, right));
+        }
+        let both_marks = tests.into_iter().flat_map(|test| [test, test.not_turned()]);
+        let mut plans: Vec<Plan> = both_marks.map(|test| select(test, scan(0, 0))).collect();
+        plans.push(pair(Aggregate::Count, 9, keys(0, comparison, 3), scan(0, 0), scan(0, 2)));
+        plans.push(group(Aggregate::Sum(1), 9, keys(8, comparison, 0), scan(1, 0)));
+        plans
+    }
+
+    #[test]
+    fn k9_comparisons_of_every_two_cells_are_those_of_the_second_evaluator() {
+        let mut random = Random::new(8);
+        let mut counts = Counts::default();
+        let mut differences = Vec::new();
+        for (left, right) in CELLS.iter().flat_map(|&left| CELLS.map(|right| (left, right))) {
+            let set = write_set(&[table(&[&[left, right]]), table(&[&[left, 1], &[right, 2]])]);
+            for plan in COMPARISONS.iter().flat_map(|&comparison| comparing(comparison, right)) {
+                let held = hold_report(&mut random, &set, &write_plan(&plan), &mut counts);
+                differences.extend(held.err().map(|difference| format!("{left}, {right}, {plan:?}: {difference}")));
+            }
+        }
+        print!("every two cells: {}", counts.unequal_line());
+        assert!(differences.is_empty(), "{} differences:\n{}", differences.len(), differences.join("\n"));
+        // Each of 6 cells beside each: a number and a blank 8 times, two blanks once, off scale and anything 11 times.
+        assert_eq!(counts.unequal[1], [8, 1, 11]);
     }
 }
 

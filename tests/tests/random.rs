@@ -3,28 +3,47 @@
 
 use second::calls::{read, report_of, unnest_tree};
 use second::check::columns;
-use second::generate::{accepted, common_beginning, steps, totals};
+use second::generate::{accepted, common_beginning, steps, totals, unequal};
 use second::nodes::write_plan;
+use second::plan::Comparison::NotEqual;
+use second::plan::{Form, Plan, Test};
 use second::random::Random;
 use second::rules::{first_fit, fit, sequences, stay_position, try_step, weight};
 
 /// How many random plans are tried.
 const PLANS: u64 = 10_000;
 
+/// Whether a node compares by ≠: by its keys, in its test, or in that of a Select that is its last child.
+fn is_unequal(node: &Plan) -> bool {
+    let unequal = |test: &Test| matches!(test.form, Form::Columns(NotEqual, ..) | Form::Number(NotEqual, ..));
+    matches!(node, Plan::Pair { keys, .. } if keys.comparison == NotEqual)
+        || node.test().is_some_and(unequal)
+        || matches!(node.children().last(), Some(Plan::Select { test, .. }) if unequal(test))
+}
+
 #[test]
 fn unnesting_keeps_the_report() {
     let mut fitted = [0usize; 9];
+    let mut unequal_steps = [0usize; 9];
     let mut kinds = [0usize; 15];
     let mut longest = 0;
-    for seed in 0..PLANS + 400 {
+    for seed in 0..PLANS + 800 {
         let mut random = Random::new(seed);
-        let input = if seed < PLANS { accepted(&mut random) } else { totals(&mut random) };
+        // After the plans of every sort, sums over blanks and comparisons with blanks in turn.
+        let input = match seed.checked_sub(PLANS) {
+            None => accepted(&mut random),
+            Some(further) if further % 2 == 0 => totals(&mut random),
+            Some(_) => unequal(&mut random),
+        };
         let (tables, tree) = read(&input.set_bytes(), &input.plan_bytes()).expect("an accepted plan");
         assert_eq!((&tables, &tree), (&input.tables, &input.plan));
         tree.nodes().iter().for_each(|node| kinds[usize::from(node.kind())] += 1);
         let (steps, passed) = unnest_tree(&tree, &tables);
         let last = &passed[passed.len() - 1];
-        steps.iter().for_each(|&(rule, _)| fitted[usize::from(rule)] += 1);
+        for (&(rule, place), before) in steps.iter().zip(&passed) {
+            fitted[usize::from(rule)] += 1;
+            unequal_steps[usize::from(rule)] += usize::from(before.at(usize::from(place)).is_some_and(is_unequal));
+        }
         longest = longest.max(steps.len());
         assert_eq!(columns(&tree, &tables), columns(last, &tables), "seed {seed}");
         assert_eq!(report_of(&tree, &tables), report_of(last, &tables), "seed {seed}");
@@ -34,7 +53,9 @@ fn unnesting_keeps_the_report() {
     }
     println!("nodes by kind {kinds:?}");
     println!("steps by rule {:?}, longest list {longest}", &fitted[1..]);
+    println!("steps by rule at nodes that compare by ≠ {:?}", &unequal_steps[1..]);
     assert!(fitted[1..].iter().all(|&count| count > 200), "{fitted:?}");
+    assert!(unequal_steps[1..8].iter().all(|&count| count > 50), "{unequal_steps:?}");
 }
 
 #[test]
