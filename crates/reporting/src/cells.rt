@@ -15,7 +15,7 @@ pub(crate) fn is_number(x: u32) -> bool
 }
 
 // Whether two numbers stand in the order that a comparison asks for.
-pub(crate) fn ordered(comparison: u8, a: u32, b: u32) -> bool
+fn ordered(comparison: u8, a: u32, b: u32) -> bool
     ensures { λ r. ⌜ r ≡ order (comparisonOf comparison) a b ⌝ }
 {
     if comparison == 0 {
@@ -37,7 +37,7 @@ pub(crate) fn ordered(comparison: u8, a: u32, b: u32) -> bool
 }
 
 // Whether a comparison holds of a number and a cell that is none, on either side: ≠ does, of a blank.
-pub(crate) fn beside_number(comparison: u8, x: u32) -> bool
+fn beside_number(comparison: u8, x: u32) -> bool
     ensures { λ r. ⌜ r ≡ isBlank x && isUnequal (comparisonOf comparison) ⌝ }
 {
     if x != 0 {
