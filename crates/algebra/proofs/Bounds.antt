@@ -5,8 +5,8 @@ use mathlib.Core.Path.{_≡_, refl, ap, _∙_}
 use mathlib.Core.List.{List, [], _∷_, map}
 use native.Mathlib.Omega.{arith}
 use native.Mathlib.Nat.{le-trans, mul-le-mul-right}
-use lib.ListN.{length, length-map, length-append}
-use Rattle.algebra.specs.Lists.{flip, any, flatMap, insert, sorted, same, firsts}
+use lib.ListN.{length, length-map, length-append, length-reverse}
+use Rattle.algebra.specs.Lists.{flip, any, flatMap, insert, sorted, backwards, same, firsts}
 use Rattle.algebra.specs.Cells.{eq}
 use Rattle.algebra.specs.Plans.{Row, Env, Tables, holds, unit, scan, Unary, select, project, distinct, group, sort, Binary, cross, semi, quant, fold, each, pair, Plan, leaf, one, two, nested, columns, bind, matched, quantify, emit, cut, act, around, joined, eval}
 use Rattle.algebra.specs.Refusals.{perRow, bound}
@@ -24,6 +24,10 @@ insert-length before x (y ∷ rs) =
 sorted-length : (before : Row → Row → Bool) (rs : List Row) → length (sorted before rs) ≡ length rs
 sorted-length before [] = refl
 sorted-length before (x ∷ rs) = insert-length before x (sorted before rs) ∙ ap suc (sorted-length before rs)
+
+backwards-length : (d : Bool) (rs : List Row) → length (backwards d rs) ≡ length rs
+backwards-length true rs = length-reverse rs
+backwards-length false rs = refl
 
 firsts-length : (rs : List Row) → length (firsts rs) ≤ length rs
 firsts-length [] = omega arith
@@ -56,7 +60,7 @@ act-length (group g n l r c t) cs env rs =
       flatMap-length (λ v. emit (pair g n l r c t) cs v (bind (l ∷ []) v env) rs) 1 (λ v. emit-length (pair g n l r c t) cs v (bind (l ∷ []) v env) rs (length rs) (omega arith))
           (firsts (map (cut (r ∷ []) cs env) rs)),
     )
-act-length (sort d ids) cs env rs = simp sorted-length (omega arith)
+act-length (sort d ids) cs env rs = simp (backwards-length, sorted-length) (omega arith)
 
 module _ (T : Tables) where
   pub row-bound : (p : Plan) (env : Env) → length (eval T p env) ≤ bound T p

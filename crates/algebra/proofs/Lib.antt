@@ -2,6 +2,7 @@
 pub mod Lists
 pub mod Cells
 pub mod Aggregates
+pub mod Sorting
 pub mod Free
 pub mod Change
 pub mod Places

@@ -6,7 +6,7 @@ use mathlib.Core.Bool.{Bool, true, false, not, cond, _&&_}
 use mathlib.Core.List.{List, [], _∷_, _++_, map}
 use lib.Dec.{eqb, ltb}
 use lib.ListN.{length, replicate}
-use Rattle.algebra.specs.Lists.{flip, filter, any, all, flatMap, sorted, firsts, upward}
+use Rattle.algebra.specs.Lists.{flip, filter, any, all, flatMap, sorted, backwards, firsts, upward}
 use Rattle.algebra.specs.Cells.{Comparison, eq, Aggregate, count, over, blank, compares, aggregate}
 
 abbrev pub Row : Type 0
@@ -159,19 +159,20 @@ emit (pair g n a b c t) ds l env rs = (l ++ (gather g (matched a b c t) ds env r
 abbrev pub cut : List ℕ → List ℕ → Env → Row → Row
 cut ids cs env r = map (bind cs r env) ids
 
--- the first list comes before the second, by code; with the mark, after
-abbrev pub precedes : Bool → List ℕ → List ℕ → Bool
-precedes d [] ys = false
-precedes d (x ∷ xs) [] = false
-precedes d (x ∷ xs) (y ∷ ys) = cond (eqb x y) (precedes d xs ys) (flip d (ltb x y))
+-- the first list comes before the second, by code
+abbrev pub precedes : List ℕ → List ℕ → Bool
+precedes [] ys = false
+precedes (x ∷ xs) [] = false
+precedes (x ∷ xs) (y ∷ ys) = cond (eqb x y) (precedes xs ys) (ltb x y)
 
 -- Group pairs each first occurrence of the right key, as a row under the left key's id, with the child's rows.
+-- A downward Sort is the upward one read backwards.
 unfoldable pub act : Unary → List ℕ → Env → List Row → List Row
 act (select t) cs env rs = filter (λ r. holds t (bind cs r env)) rs
 act (project ids) cs env rs = map (cut ids cs env) rs
 act (distinct ids) cs env rs = firsts (map (cut ids cs env) rs)
 act (group g n l r c t) cs env rs = flatMap (λ v. emit (pair g n l r c t) cs v (bind (l ∷ []) v env) rs) (firsts (map (cut (r ∷ []) cs env) rs))
-act (sort d ids) cs env rs = sorted (λ q r. precedes d (cut ids cs env q) (cut ids cs env r)) rs
+act (sort d ids) cs env rs = backwards d (sorted (λ q r. precedes (cut ids cs env q) (cut ids cs env r)) rs)
 
 -- the environment of the second child
 abbrev pub around : Bool → Env → Env → Env

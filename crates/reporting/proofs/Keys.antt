@@ -1,6 +1,6 @@
 -- Rows compared cell by cell. Assumes nothing.
-use mathlib.Core.Path.{_≡_, refl, sym, ap, ap₂, _∙_}
-use mathlib.Core.Bool.{Bool, true, false, not, cond, _&&_, _||_}
+use mathlib.Core.Path.{_≡_, sym, ap, ap₂, _∙_}
+use mathlib.Core.Bool.{Bool, true, false, cond, _&&_, _||_}
 use mathlib.Core.List.{List}
 use Prim.Native.Nat.{ℕ, _+_, _-_, _≤_, _<_}
 use native.Mathlib.Numerals.{add-one}
@@ -8,8 +8,8 @@ use native.Mathlib.Omega.{arith}
 use lib.Dec.{eqb, ltb}
 use lib.ListN.{length, take, drop, getD, drop-of-length-le}
 use lib.Seq.{drop-cons}
-use borrow.Author.Tests.{eq-eqb, ne-eqb, lt-ltb, le-ltb}
-use Rattle.algebra.specs.Lists.{same, any, flip}
+use borrow.Author.Tests.{eq-eqb, ne-eqb}
+use Rattle.algebra.specs.Lists.{same, any}
 use Rattle.algebra.specs.Plans.{Row, precedes}
 use Rattle.reporting.specs.Rows.{chunk}
 use Rattle.reporting.specs.Positions.{picked}
@@ -29,36 +29,27 @@ pub any-end : (P : Row → Bool) (k w i at : ℕ) (xs : List ℕ) → k ≤ i �
 unfolding chunk
 any-end P k w i at xs h = let e : k - i ≡ 0 = omega arith in ap (λ (n : ℕ). any P (chunk n w (drop at xs))) e
 
-module _ (d : Bool) (ps : List ℕ) (a b : Row) (i : ℕ) where
+module _ (ps : List ℕ) (a b : Row) (i : ℕ) where
   abbrev pub keyed : Bool
-  keyed = precedes d (picked (drop i ps) a) (picked (drop i ps) b)
+  keyed = precedes (picked (drop i ps) a) (picked (drop i ps) b)
 
-module _ (d : Bool) (ps : List ℕ) (a b : Row) (i : ℕ) where
-  key-next : i < length ps → keyed d ps a b i ≡ cond (eqb (getD a (getD ps i 0) 0) (getD b (getD ps i 0) 0)) (keyed d ps a b (i + 1)) (flip d (ltb (getD a (getD ps i 0) 0) (getD b (getD ps i 0) 0)))
+module _ (ps : List ℕ) (a b : Row) (i : ℕ) where
+  key-next : i < length ps → keyed ps a b i ≡ cond (eqb (getD a (getD ps i 0) 0) (getD b (getD ps i 0) 0)) (keyed ps a b (i + 1)) (ltb (getD a (getD ps i 0) 0) (getD b (getD ps i 0) 0))
   unfolding picked
   key-next h =
-      ap (λ (l : List ℕ). precedes d (picked l a) (picked l b)) (drop-cons ps i 0 h)
-      ∙ ap (λ (n : ℕ). cond (eqb (getD a (getD ps i 0) 0) (getD b (getD ps i 0) 0)) (keyed d ps a b n) (flip d (ltb (getD a (getD ps i 0) 0) (getD b (getD ps i 0) 0)))) (sym (add-one i))
+      ap (λ (l : List ℕ). precedes (picked l a) (picked l b)) (drop-cons ps i 0 h)
+      ∙ ap (λ (n : ℕ). cond (eqb (getD a (getD ps i 0) 0) (getD b (getD ps i 0) 0)) (keyed ps a b n) (ltb (getD a (getD ps i 0) 0) (getD b (getD ps i 0) 0))) (sym (add-one i))
 
-  pub key-end : length ps ≤ i → keyed d ps a b i ≡ false
+  pub key-end : length ps ≤ i → keyed ps a b i ≡ false
   unfolding picked
-  key-end h = ap (λ (l : List ℕ). precedes d (picked l a) (picked l b)) (drop-of-length-le ps {i = i} h)
+  key-end h = ap (λ (l : List ℕ). precedes (picked l a) (picked l b)) (drop-of-length-le ps {i = i} h)
 
   module _ (x y : ℕ) (h : i < length ps) (ex : x ≡ getD a (getD ps i 0) 0) (ey : y ≡ getD b (getD ps i 0) 0) where
-    key-at : keyed d ps a b i ≡ cond (eqb x y) (keyed d ps a b (i + 1)) (flip d (ltb x y))
-    key-at = key-next h ∙ ap₂ (λ (x y : ℕ). cond (eqb x y) (keyed d ps a b (i + 1)) (flip d (ltb x y))) (sym ex) (sym ey)
+    key-at : keyed ps a b i ≡ cond (eqb x y) (keyed ps a b (i + 1)) (ltb x y)
+    key-at = key-next h ∙ ap₂ (λ (x y : ℕ). cond (eqb x y) (keyed ps a b (i + 1)) (ltb x y)) (sym ex) (sym ey)
 
-    pub key-less : x < y → keyed d ps a b i ≡ not d
-    key-less l =
-        key-at
-        ∙ ap₂ (λ (e t : Bool). cond e (keyed d ps a b (i + 1)) (flip d t)) (ne-eqb x y (λ e. omega arith)) (lt-ltb x y l)
-        ∙ (elim d as (λ d. flip d true ≡ not d) [ true ↦ refl | false ↦ refl ])
+    pub key-differs : (x ≡ y → ⊥) → keyed ps a b i ≡ ltb x y
+    key-differs n = key-at ∙ ap (λ (t : Bool). cond t (keyed ps a b (i + 1)) (ltb x y)) (ne-eqb x y n)
 
-    pub key-more : y < x → keyed d ps a b i ≡ d
-    key-more l =
-        key-at
-        ∙ ap₂ (λ (e t : Bool). cond e (keyed d ps a b (i + 1)) (flip d t)) (ne-eqb x y (λ e. omega arith)) (le-ltb x y (omega arith))
-        ∙ (elim d as (λ d. flip d false ≡ d) [ true ↦ refl | false ↦ refl ])
-
-    pub key-same : x ≡ y → keyed d ps a b i ≡ keyed d ps a b (i + 1)
-    key-same e = key-at ∙ ap (λ (t : Bool). cond t (keyed d ps a b (i + 1)) (flip d (ltb x y))) (eq-eqb x y e)
+    pub key-same : x ≡ y → keyed ps a b i ≡ keyed ps a b (i + 1)
+    key-same e = key-at ∙ ap (λ (t : Bool). cond t (keyed ps a b (i + 1)) (ltb x y)) (eq-eqb x y e)

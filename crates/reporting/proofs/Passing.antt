@@ -26,6 +26,10 @@ pub flip-true : (mark : Bool) → not mark ≡ flip mark true
 flip-true true = refl
 flip-true false = refl
 
+pub flip-false : (mark : Bool) → mark ≡ flip mark false
+flip-false true = refl
+flip-false false = refl
+
 -- a row passes where its keys and its test hold; a kind without a test lets every row pass
 passing-by : (node : Node) (env : Env) (k : ℕ) → passing (operatorBy k node) env ≡ (not (hasTest k) || (keysHold k node env && holds (nodeTest node) env))
 unfolding operatorBy passing hasTest hasKeys keyComparison keysHold

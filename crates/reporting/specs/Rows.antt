@@ -5,9 +5,8 @@ use mathlib.Core.Bool.{Bool, true}
 use mathlib.Core.Path.{_≡_}
 use mathlib.Core.List.{List, [], _∷_}
 use lib.ListN.{getD, take, drop}
-use Rattle.algebra.specs.Lists.{sorted}
 use Rattle.algebra.specs.Cells.{eq, Aggregate, count}
-use Rattle.algebra.specs.Plans.{Row, Env, holds, Unary, select, project, distinct, group, sort, Binary, cross, semi, quant, fold, each, pair, unaryColumns, binaryColumns, matched, gather, emit, act, cut, precedes}
+use Rattle.algebra.specs.Plans.{Row, Env, holds, Unary, select, project, distinct, group, sort, Binary, cross, semi, quant, fold, each, pair, unaryColumns, binaryColumns, matched, gather, emit, act}
 use Rattle.algebra.specs.Places.{Operator, leafNode, unaryNode, binaryNode}
 use Rattle.algebra.specs.Refusals.{perRow}
 
@@ -102,6 +101,6 @@ emittedMost (leafNode x) k = 0
 emittedMost (unaryNode u) k = 0
 emittedMost (binaryNode b) k = perRow b k
 
--- what Sort leaves at the front of cells, under every environment: the rows in the order of their cells under the listed ids; cs the columns
+-- what Sort leaves at the front of cells, under every environment; cs the columns of the rows
 pub record SortedBy (down : Bool) (list cs : List ℕ) (rows : List Row) (w most r : ℕ) (cells : List ℕ) : Type 0 where
-  pub under : (env : Env) → Gives (sorted (λ q s. precedes down (cut list cs env q) (cut list cs env s)) rows) w most r cells
+  pub under : (env : Env) → Gives (act (sort down list) cs env rows) w most r cells
