@@ -5,9 +5,9 @@ use mathlib.Core.Bool.{Bool, true, false, not, cond, _&&_, _||_, true≢false}
 use mathlib.Core.Path.{_≡_, refl, ap, ap₂, sym, _∙_, fun-ext}
 use mathlib.Core.List.{List, [], _∷_, _++_, map}
 use lib.Dec.{eqb}
-use Rattle.algebra.specs.Lists.{flip, filter, any, flatMap, sorted, backwards, member, minus, firsts}
+use Rattle.algebra.specs.Lists.{flip, filter, any, flatMap, member, minus, firsts}
 use Rattle.algebra.specs.Cells.{Comparison, eq, Aggregate, count, over, blank, compares, aggregate}
-use Rattle.algebra.specs.Plans.{Row, Env, Tables, Form, always, columnsOf, numberOf, Test, test, formNames, names, truth, holds, Unary, select, project, distinct, group, sort, Binary, cross, semi, quant, fold, each, pair, Plan, leaf, one, two, nested, columns, bind, measure, gather, matched, quantify, emit, cut, precedes, act, around, joined, eval}
+use Rattle.algebra.specs.Plans.{Row, Env, Tables, Form, always, columnsOf, numberOf, Test, test, formNames, names, truth, holds, Unary, select, project, distinct, group, sort, Binary, cross, semi, quant, fold, each, pair, Plan, leaf, one, two, nested, columns, bind, measure, gather, matched, quantify, emit, cut, arranged, act, around, joined, eval}
 use Rattle.algebra.specs.Names.{measured, binaryNames, unaryFree, innerFree, free}
 
 -- the two environments give these columns the same values
@@ -107,7 +107,7 @@ act-agree (group a n l r c t) cs {f} {g} rs h =
     ap₂ (λ (k : Row → List Row) (m : Row → Row). flatMap k (firsts (map m rs)))
     (fun-ext (λ v. emit-agree (pair a n l r c t) cs v rs (bind-agree (minus (binaryNames (pair a n l r c t)) cs) (l ∷ []) v (agree-right (minus (r ∷ []) cs) _ h))))
     (cut-agree (r ∷ []) cs (agree-left (minus (r ∷ []) cs) _ h))
-act-agree (sort d ids) cs rs h = ap (λ (k : Row → Row). backwards d (sorted (λ q r. precedes (k q) (k r)) rs)) (cut-agree ids cs h)
+act-agree (sort d ids) cs rs h = ap (λ (k : Row → Row). arranged d k rs) (cut-agree ids cs h)
 
 around-agree : (b : Bool) (cs fs : List ℕ) (l : Row) {f g : Env} → Agree f g (innerFree b cs fs) → Agree (around b f (bind cs l f)) (around b g (bind cs l g)) fs
 around-agree true cs fs l h = bind-agree fs cs l h

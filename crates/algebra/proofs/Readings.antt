@@ -7,9 +7,9 @@ use mathlib.Core.Path.{_≡_, refl, ap, ap₂, sym, _∙_, fun-ext, subst}
 use mathlib.Core.List.{List, [], _∷_, _++_, map}
 use lib.Dec.{eqb}
 use borrow.Author.Tests.{eqb-true, eq-eqb, not-true}
-use Rattle.algebra.specs.Lists.{flip, filter, any, flatMap, sorted, backwards, member, unique, within, firsts}
+use Rattle.algebra.specs.Lists.{flip, filter, any, flatMap, member, unique, within, firsts}
 use Rattle.algebra.specs.Cells.{Comparison, eq, Aggregate, blank, compares, aggregate}
-use Rattle.algebra.specs.Plans.{Row, Env, Tables, Test, names, holds, Unary, select, project, distinct, group, sort, Binary, cross, semi, quant, fold, each, pair, Plan, leaf, one, two, nested, unaryColumns, binaryColumns, columns, bind, measure, gather, matched, emit, cut, precedes, act, around, joined, leafRows, eval}
+use Rattle.algebra.specs.Plans.{Row, Env, Tables, Test, names, holds, Unary, select, project, distinct, group, sort, Binary, cross, semi, quant, fold, each, pair, Plan, leaf, one, two, nested, unaryColumns, binaryColumns, columns, bind, measure, gather, matched, emit, cut, arranged, act, around, joined, leafRows, eval}
 use Rattle.algebra.specs.Names.{measured, unaryNew, binaryNew, introduced}
 use Rattle.algebra.specs.Refusals.{unaryInView, binaryInView, innerScope, inView, refusal}
 use Rattle.algebra.specs.Rules.{outside}
@@ -52,7 +52,7 @@ readAct (select t) cs env rs = filter (λ r. holds t (bind cs r env)) rs
 readAct (project ids) cs env rs = map (λ r. map (cell cs r) ids) rs
 readAct (distinct ids) cs env rs = firsts (map (λ r. map (cell cs r) ids) rs)
 readAct (group g n l r c t) cs env rs = map (readGroup g r c t cs env rs) (cells (firsts (map (λ q. cell cs q r ∷ []) rs)))
-readAct (sort d ids) cs env rs = backwards d (sorted (λ q r. precedes (map (cell cs q) ids) (map (cell cs r) ids)) rs)
+readAct (sort d ids) cs env rs = arranged d (λ r. map (cell cs r) ids) rs
 
 unfoldable pub readEval : Tables → Plan → Env → List Row
 readEval T (leaf x) env = leafRows T x
@@ -228,7 +228,7 @@ act-reads scope (group a m l r c t) cs h n env rs =
     (singles-firsts (singles-cut r cs env rs))
     ∙ ap (λ (k : Row → Row). map (readGroup a r c t cs env rs) (cells (firsts (map k rs)))) (cut-reads (r ∷ []) cs env (rw u))
 act-reads scope (sort d ids) cs h n env rs =
-    ap (λ (k : Row → Row). backwards d (sorted (λ q r. precedes (k q) (k r)) rs)) (cut-reads ids cs env (and-eq-true-iff (unique ids) (within ids cs) .0 h .1))
+    ap (λ (k : Row → Row). arranged d k rs) (cut-reads ids cs env (and-eq-true-iff (unique ids) (within ids cs) .0 h .1))
 
 -- ---- the whole plan
 -- no id stands in both

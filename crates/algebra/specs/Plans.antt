@@ -165,14 +165,17 @@ precedes [] ys = false
 precedes (x ∷ xs) [] = false
 precedes (x ∷ xs) (y ∷ ys) = cond (eqb x y) (precedes xs ys) (ltb x y)
 
+-- the rows by code of their keys, those with the same key as they came; with the mark, this list read backwards
+abbrev pub arranged : Bool → (Row → List ℕ) → List Row → List Row
+arranged d key rs = backwards d (sorted (λ q r. precedes (key q) (key r)) rs)
+
 -- Group pairs each first occurrence of the right key, as a row under the left key's id, with the child's rows.
--- A downward Sort is the upward one read backwards.
 unfoldable pub act : Unary → List ℕ → Env → List Row → List Row
 act (select t) cs env rs = filter (λ r. holds t (bind cs r env)) rs
 act (project ids) cs env rs = map (cut ids cs env) rs
 act (distinct ids) cs env rs = firsts (map (cut ids cs env) rs)
 act (group g n l r c t) cs env rs = flatMap (λ v. emit (pair g n l r c t) cs v (bind (l ∷ []) v env) rs) (firsts (map (cut (r ∷ []) cs env) rs))
-act (sort d ids) cs env rs = backwards d (sorted (λ q r. precedes (cut ids cs env q) (cut ids cs env r)) rs)
+act (sort d ids) cs env rs = arranged d (cut ids cs env) rs
 
 -- the environment of the second child
 abbrev pub around : Bool → Env → Env → Env

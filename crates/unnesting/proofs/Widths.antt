@@ -6,9 +6,9 @@ use mathlib.Core.List.{List, [], _∷_, _++_, map, reverseAux}
 use native.Mathlib.Omega.{arith}
 use native.Mathlib.Nat.{zero-mul, suc-mul}
 use lib.ListN.{length, replicate, length-append, length-map, length-replicate}
-use Rattle.algebra.specs.Lists.{flip, filter, any, flatMap, insert, sorted, backwards, same, firsts, upward}
+use Rattle.algebra.specs.Lists.{flip, filter, any, flatMap, insert, sorted, same, firsts, upward}
 use Rattle.algebra.specs.Cells.{eq, blank}
-use Rattle.algebra.specs.Plans.{Row, Env, Tables, holds, bind, matched, quantify, cut, precedes, Leaf, unit, scan, Unary, select, project, distinct, group, sort, Binary, cross, semi, quant, fold, each, pair, Plan, leaf, one, two, nested, around, leafColumns, unaryColumns, binaryColumns, columns, emit, act, joined, leafRows, eval}
+use Rattle.algebra.specs.Plans.{Row, Env, Tables, holds, bind, matched, quantify, cut, precedes, arranged, Leaf, unit, scan, Unary, select, project, distinct, group, sort, Binary, cross, semi, quant, fold, each, pair, Plan, leaf, one, two, nested, around, leafColumns, unaryColumns, binaryColumns, columns, emit, act, joined, leafRows, eval}
 use Rattle.reading.specs.TableSet.{columnsOf, rowsOf, tableFrom, tableCell, tableRows, tablesOf}
 use Rattle.reading.proofs.Places.{upward-length}
 
@@ -51,9 +51,9 @@ wide-reverse : {w : ℕ} {rs ss : List Row} → Wide w rs → Wide w ss → Wide
 wide-reverse nothing k = k
 wide-reverse (more e h) k = wide-reverse h (more e k)
 
-wide-backwards : {w : ℕ} (d : Bool) {rs : List Row} → Wide w rs → Wide w (backwards d rs)
-wide-backwards true h = wide-reverse h nothing
-wide-backwards false h = h
+wide-arranged : {w : ℕ} (d : Bool) (key : Row → List ℕ) {rs : List Row} → Wide w rs → Wide w (arranged d key rs)
+wide-arranged true key h = wide-reverse (wide-sorted (λ q r. precedes (key q) (key r)) h) nothing
+wide-arranged false key h = wide-sorted (λ q r. precedes (key q) (key r)) h
 
 -- what each row of a list gives is wide, so all of it is
 wide-flatMap : {v w : ℕ} (f : Row → List Row) {rs : List Row} → Wide v rs → ((r : Row) → length r ≡ v → Wide w (f r)) → Wide w (flatMap f rs)
@@ -91,7 +91,7 @@ act-wide (group g n l r c t) cs env rs h =
     wide-flatMap (λ v. emit (pair g n l r c t) cs v (bind (l ∷ []) v env) rs)
     (wide-firsts (wide-map (cut (r ∷ []) cs env) rs (cut-length (r ∷ []) cs env)))
     (λ v e. emit-wide (pair g n l r c t) (l ∷ []) cs v (bind (l ∷ []) v env) rs e h)
-act-wide (sort d ids) cs env rs h = wide-backwards d (wide-sorted (λ q r. precedes (cut ids cs env q) (cut ids cs env r)) h)
+act-wide (sort d ids) cs env rs h = wide-arranged d (cut ids cs env) h
 
 module _ (T : Tables) (tables : (t : ℕ) → Wide (T .width t) (T .rows t)) where
   leaf-wide : (x : Leaf) → Wide (length (leafColumns T x)) (leafRows T x)
