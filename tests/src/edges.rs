@@ -96,6 +96,8 @@ pub fn edges() -> Vec<(&'static str, Input)> {
     all.extend(comparisons_by_tests());
     all.extend(comparisons_by_keys());
     all.extend(comparisons_of_cards());
+    all.extend(lists_with_equal_rows());
+    all.extend(sequences_with_equal_rows());
     all
 }
 
@@ -218,6 +220,66 @@ fn comparisons_of_cards() -> Vec<(&'static str, Input)> {
         ("Some with a not-marked ≠ over blanks", some(not_10.not_turned(), players(), cards_of())),
     ]
     .map(|(name, plan)| (name, Input { tables: vec![cards(&scores, &[])], plan }))
+    .to_vec()
+}
+
+/// Scores, their players, and the rows' numbers. Rows are equal in the score alone, in the player alone, in both and in neither, with
+/// blanks and off scale among them, and players of one score come neither up nor down.
+fn scores_and_players() -> Table {
+    table(&[
+        &[36, 9, 1],
+        &[BLANK, 4, 2],
+        &[36, 7, 3],
+        &[OFF_SCALE, 9, 4],
+        &[36, 9, 5],
+        &[BLANK, OFF_SCALE, 6],
+        &[OFF_SCALE, 9, 7],
+        &[31, BLANK, 8],
+        &[36, 5, 9],
+        &[OFF_SCALE, 9, 10],
+    ])
+}
+
+/// Sorts both ways, over an even number of rows, an odd one, one and none, and downward over downward.
+fn lists_with_equal_rows() -> Vec<(&'static str, Input)> {
+    let even = scores_and_players();
+    let odd = Table { columns: 3, rows: even.rows[..9].to_vec() };
+    let by_score = |down, child| sort(down, &[0], child);
+    let by_both = |down| sort(down, &[1, 0], scan(1, 0));
+    let one = select(number_test(2, Equal, 3), scan(0, 0));
+    let none = sort(true, &[11], select(NEVER, scan(0, 10)));
+    [
+        ("a downward list with equal scores", by_score(true, scan(0, 0))),
+        ("an upward list with equal scores", by_score(false, scan(0, 0))),
+        ("a downward list by player and score", by_both(true)),
+        ("an upward list by player and score", by_both(false)),
+        ("a downward list of a downward list by the same column", by_score(true, by_score(true, scan(0, 0)))),
+        ("a downward list of a downward list by another column", by_score(true, sort(true, &[1], scan(0, 0)))),
+        ("downward lists of one row and of none", each(by_score(true, one), none)),
+        ("a Group over a downward list", group(Aggregate::Sum(2), 20, keys(21, Equal, 1), by_score(true, scan(0, 0)))),
+    ]
+    .map(|(name, plan)| (name, Input { tables: vec![even.clone(), odd.clone()], plan }))
+    .to_vec()
+}
+
+/// Players of a downward list by score beside those of another table: in the order of the list, so that U3, U4 and U6 fit; and as they
+/// would be with equal scores kept as they came, so that no rule fits and the sequences differ first at position 1.
+fn sequences_with_equal_rows() -> Vec<(&'static str, Input)> {
+    let in_reverse = one_column(&[9, 5, 7, BLANK, OFF_SCALE, 4]);
+    let as_they_came = one_column(&[9, 7, 5, BLANK, 4, OFF_SCALE]);
+    let list = || sort(true, &[10], scan(0, 10));
+    let players = |table| distinct(&[0], scan(table, 0));
+    let counted = |table| pair(Aggregate::Count, 20, keys(0, Equal, 11), players(table), list());
+    [
+        ("a Semi of the players in a downward list", semi(11, 0, ALWAYS, distinct(&[11], list()), scan(1, 0))),
+        ("a Semi of the players as they came", semi(11, 0, ALWAYS, distinct(&[11], list()), scan(2, 0))),
+        ("an Anti with a downward list", anti(0, 11, number_test(10, Less, 40), players(1), list())),
+        ("a Pair with a downward list", counted(1)),
+        ("a Pair of the players as they came", counted(2)),
+    ]
+    .map(|(name, plan)| {
+        (name, Input { tables: vec![scores_and_players(), in_reverse.clone(), as_they_came.clone()], plan })
+    })
     .to_vec()
 }
 

@@ -154,18 +154,14 @@ fn over_child(plan: &Plan, given: Vec<Vec<i32>>, ids: &[u8], outer: Option<&Scop
     }
 }
 
-/// Sorts stably by code, the first listed column first.
+/// Sorts by code, the first listed column first. Upward, rows that are equal in all listed columns stay as they came; downward
+/// is that list read backwards, so there they come in reverse.
 fn sorted(mut given: Vec<Vec<i32>>, ids: &[u8], list: &[u8], down: bool) -> Vec<Vec<i32>> {
     let places: Vec<usize> = list.iter().map(|&id| place_of(id, ids)).collect();
-    let key = |row: &Vec<i32>| -> Vec<i32> { places.iter().map(|&place| row[place]).collect() };
-    given.sort_by(|one, other| {
-        let order = key(one).cmp(&key(other));
-        if down {
-            order.reverse()
-        } else {
-            order
-        }
-    });
+    given.sort_by_key(|row| -> Vec<i32> { places.iter().map(|&place| row[place]).collect() });
+    if down {
+        given.reverse();
+    }
     given
 }
 

@@ -11,6 +11,7 @@ use second::plan::Comparison::{AtLeast, AtMost, Equal, Greater, Less, NotEqual};
 use second::plan::{Aggregate, Comparison, Plan, Test, ALWAYS, COMPARISONS};
 use second::rules::{fit, free_id, stay_position, try_step, weight};
 use second::tables::{write_set, Table};
+use std::slice;
 
 /// The report's rows, of an accepted plan.
 fn rows(tables: &[Table], plan: &Plan) -> Vec<Vec<i32>> {
@@ -202,12 +203,12 @@ fn group_never_matches_blank_with_blank() {
 }
 
 #[test]
-fn sort_is_stable_both_ways_and_by_code() {
+fn sort_is_by_code_stable_upward_and_its_mirror_downward() {
     let tables = [table(&[&[1, 10], &[BLANK, 11], &[1, 12], &[OFF_SCALE, 13], &[-5, 14]])];
     let order =
         |down| -> Vec<i32> { rows(&tables, &sort(down, &[0], scan(0, 0))).into_iter().map(|row| row[1]).collect() };
     assert_eq!(order(false), [11, 14, 10, 12, 13]);
-    assert_eq!(order(true), [13, 10, 12, 14, 11]);
+    assert_eq!(order(true), [13, 12, 10, 14, 11]);
 }
 
 #[test]
@@ -611,17 +612,21 @@ fn k5_12_and_13_in_the_whole_plan_come_before_14() {
     assert_eq!(refusal(&tables, &some(ALWAYS, tall(), unseen)), Some(12));
 }
 
-/// The note for a Semi, an Anti and a Pair, the same for all three, where e's cells and the right keys are these. Without a note
-/// their rules fit: nothing but the sequences can keep them from it.
+/// The note for a Semi, an Anti and a Pair, the same for all three, where e's cells and the right keys are these.
 fn note(cells: &[i32], right_keys: &[i32]) -> Option<usize> {
     let tables = [one_column(cells), one_column(right_keys)];
-    let left = || distinct(&[0], scan(0, 0));
-    let semi = semi(0, 1, ALWAYS, left(), scan(1, 1));
-    let anti = anti(0, 1, ALWAYS, left(), scan(1, 1));
-    let pair = pair(Aggregate::Count, 5, keys(0, NotEqual, 1), left(), scan(1, 1));
+    note_of(&tables, (&distinct(&[0], scan(0, 0)), 0), (&scan(1, 1), 1))
+}
+
+/// The note for a Semi, an Anti and a Pair of e, a closed Distinct of its key, and a closed f with its key. Without a note their rules
+/// fit: nothing but the sequences can keep them from it.
+fn note_of(tables: &[Table], (e, left_key): (&Plan, u8), (f, right_key): (&Plan, u8)) -> Option<usize> {
+    let semi = semi(left_key, right_key, ALWAYS, e.clone(), f.clone());
+    let anti = anti(left_key, right_key, ALWAYS, e.clone(), f.clone());
+    let pair = pair(Aggregate::Count, 5, keys(left_key, NotEqual, right_key), e.clone(), f.clone());
     let notes = [(3, semi), (4, anti), (6, pair)].map(|(number, plan)| {
-        let note = stay_note(&write_set(&tables), &write_plan(&plan), 0, ROOMY).expect("an accepted plan");
-        assert_eq!(rule(&tables, &plan), note.is_none().then_some(number));
+        let note = stay_note(&write_set(tables), &write_plan(&plan), 0, ROOMY).expect("an accepted plan");
+        assert_eq!(rule(tables, &plan), note.is_none().then_some(number));
         note
     });
     assert!(notes.iter().all(|note| *note == notes[0]), "{notes:?}");
@@ -899,6 +904,346 @@ fn k9_blanks_that_a_plan_makes() {
     let least = |test| rows(&tables, &select(test, fold(Aggregate::Least(2), 5, ALWAYS, scan(0, 0), cards_of())));
     assert_eq!(least(number_test(5, NotEqual, 30)), [[9, BLANK]]);
     assert_eq!(least(number_test(5, NotEqual, 30).not_turned()), [[7, 30]]);
+}
+
+/// A table of these rows, each with its number, from 1, in a last column.
+fn numbered(rows: &[&[i32]]) -> Table {
+    let rows: Vec<Vec<i32>> = rows.iter().zip(1..).map(|(row, number)| [row, &[number][..]].concat()).collect();
+    Table { columns: rows.first().map_or(1, |row| row.len()), rows }
+}
+
+/// The rows' numbers, in the order in which a plan over a numbered table gives them.
+fn order(table: &Table, plan: &Plan) -> Vec<i32> {
+    rows(slice::from_ref(table), plan).iter().map(|row| row[row.len() - 1]).collect()
+}
+
+/// Checks the order in which a Sort by this list gives the rows of a numbered table, upward and downward.
+fn sorts_by(table: &Table, list: &[u8], upward: &[i32], downward: &[i32]) {
+    assert_eq!(order(table, &sort(false, list, scan(0, 0))), upward, "upward by {list:?}");
+    assert_eq!(order(table, &sort(true, list, scan(0, 0))), downward, "downward by {list:?}");
+}
+
+#[test]
+fn k3_rows_equal_in_all_listed_columns_come_in_reverse_downward() {
+    let scores = numbered(&[&[36], &[31], &[36], &[40], &[31], &[36]]);
+    // Kept as they came, the scores 36 and 31 would be 1, 3, 6 and 2, 5 downward too.
+    sorts_by(&scores, &[0], &[2, 5, 1, 3, 6, 4], &[4, 6, 3, 1, 5, 2]);
+    // The columns beside the listed one, here up, down and in no order, decide nothing.
+    let scores = numbered(&[&[7, 1, 9, 4], &[7, 2, 8, 9], &[5, 3, 7, 2], &[7, 4, 6, 5], &[5, 5, 5, 3]]);
+    sorts_by(&scores, &[0], &[3, 5, 1, 2, 4], &[4, 2, 1, 5, 3]);
+}
+
+#[test]
+fn k3_rows_equal_in_one_of_two_listed_columns_come_by_the_other() {
+    // No two rows are equal in both.
+    let different = numbered(&[&[1, 7], &[2, 5], &[1, 5], &[2, 7]]);
+    sorts_by(&different, &[0, 1], &[3, 1, 2, 4], &[4, 2, 1, 3]);
+    sorts_by(&different, &[1, 0], &[3, 2, 1, 4], &[4, 1, 2, 3]);
+    // By one of them there are equal rows: kept as they came they would be 2, 4, 1, 3 and 1, 4, 2, 3 downward.
+    sorts_by(&different, &[0], &[1, 3, 2, 4], &[4, 2, 3, 1]);
+    sorts_by(&different, &[1], &[2, 3, 1, 4], &[4, 1, 3, 2]);
+}
+
+/// Rows 1 and 5 are equal in both columns, and so are 2 and 4.
+fn equal_in_two_columns() -> Table {
+    numbered(&[&[1, 5], &[2, 5], &[1, 7], &[2, 5], &[1, 5], &[2, 7]])
+}
+
+#[test]
+fn k3_all_listed_columns_are_downward() {
+    // With the last listed column alone downward, [0, 1] would give 3, then 1 and 5, 6, then 2 and 4; with the first alone downward, 2
+    // and 4, 6, 1 and 5, then 3.
+    sorts_by(&equal_in_two_columns(), &[0, 1], &[1, 5, 3, 2, 4, 6], &[6, 4, 2, 3, 5, 1]);
+    sorts_by(&equal_in_two_columns(), &[1, 0], &[1, 5, 2, 4, 3, 6], &[6, 3, 4, 2, 5, 1]);
+    // Rows 2 and 4 are equal in all three, and so are 3 and 7. With the last alone downward, [0, 1, 2] would give 1, 6, 2 and 4, then 3
+    // and 7, 5; with the first alone downward, 5, 3 and 7, 1, 2 and 4, 6.
+    let three = numbered(&[&[1, 1, 1], &[1, 2, 1], &[2, 1, 2], &[1, 2, 1], &[2, 1, 1], &[1, 2, 2], &[2, 1, 2]]);
+    sorts_by(&three, &[0, 1, 2], &[1, 2, 4, 6, 5, 3, 7], &[7, 3, 5, 6, 4, 2, 1]);
+    sorts_by(&three, &[2, 0, 1], &[1, 2, 4, 5, 6, 3, 7], &[7, 3, 6, 5, 4, 2, 1]);
+    sorts_by(&three, &[1, 2, 0], &[1, 5, 3, 7, 2, 4, 6], &[6, 4, 2, 7, 3, 5, 1]);
+}
+
+#[test]
+fn k3_blanks_and_off_scale_in_listed_columns() {
+    // By code a blank comes before every number, and off scale behind: upward blanks stand first, downward last.
+    let cells = numbered(&[
+        &[7, BLANK],
+        &[BLANK, 3],
+        &[OFF_SCALE, 3],
+        &[BLANK, BLANK],
+        &[7, OFF_SCALE],
+        &[-LARGEST, 3],
+        &[BLANK, 3],
+        &[OFF_SCALE, 3],
+        &[LARGEST, 3],
+    ]);
+    sorts_by(&cells, &[0], &[2, 4, 7, 6, 1, 5, 9, 3, 8], &[8, 3, 9, 5, 1, 6, 7, 4, 2]);
+    sorts_by(&cells, &[1], &[1, 4, 2, 3, 6, 7, 8, 9, 5], &[5, 9, 8, 7, 6, 3, 2, 4, 1]);
+    sorts_by(&cells, &[0, 1], &[4, 2, 7, 6, 1, 5, 9, 3, 8], &[8, 3, 9, 5, 1, 6, 7, 2, 4]);
+    sorts_by(&cells, &[1, 0], &[4, 1, 2, 7, 6, 9, 3, 8, 5], &[5, 8, 3, 9, 6, 7, 2, 1, 4]);
+}
+
+#[test]
+fn k3_sorts_over_sorts() {
+    let up = |column: u8, child| sort(false, &[column], child);
+    let down = |column: u8, child| sort(true, &[column], child);
+    let given = || scan(0, 0);
+    let order_of = |plan: Plan| order(&equal_in_two_columns(), &plan);
+    assert_eq!(order_of(down(0, given())), [6, 4, 2, 5, 3, 1]);
+    assert_eq!(order_of(down(1, given())), [6, 3, 5, 4, 2, 1]);
+    // Downward twice by the same list: equal rows come as they came.
+    assert_eq!(order_of(down(0, down(0, given()))), [2, 4, 6, 1, 3, 5]);
+    assert_eq!(order_of(down(0, down(0, down(0, given())))), [6, 4, 2, 5, 3, 1]);
+    // Downward twice by different lists is not downward by both: that is 6, 3, 4, 2, 5, 1 by [1, 0], and 6, 4, 2, 3, 5, 1 by [0, 1].
+    assert_eq!(order_of(down(1, down(0, given()))), [3, 6, 1, 5, 2, 4]);
+    assert_eq!(order_of(down(0, down(1, given()))), [2, 4, 6, 1, 5, 3]);
+    // Upward over downward, and downward over upward.
+    assert_eq!(order_of(up(0, down(0, given()))), [5, 3, 1, 6, 4, 2]);
+    assert_eq!(order_of(up(1, down(0, given()))), [4, 2, 5, 1, 6, 3]);
+    assert_eq!(order_of(down(0, up(0, given()))), [6, 4, 2, 5, 3, 1]);
+    assert_eq!(order_of(down(1, up(0, given()))), [6, 3, 4, 2, 5, 1]);
+}
+
+#[test]
+fn k3_any_number_of_rows() {
+    sorts_by(&Table { columns: 2, rows: vec![] }, &[0], &[], &[]);
+    for height in [1, 2, 3, 4, 5, 999, 1000] {
+        let equal = numbered(&vec![&[7][..]; height]);
+        let forward: Vec<i32> = (1..=height as i32).collect();
+        let backward: Vec<i32> = (1..=height as i32).rev().collect();
+        sorts_by(&equal, &[0], &forward, &backward);
+        // By the number itself no rows are equal.
+        sorts_by(&equal, &[1], &forward, &backward);
+        sorts_by(&equal, &[0, 1], &forward, &backward);
+    }
+    // An odd and an even number of equal rows, in an even and an odd number of rows.
+    sorts_by(&numbered(&[&[2], &[1], &[2], &[2]]), &[0], &[2, 1, 3, 4], &[4, 3, 1, 2]);
+    sorts_by(&numbered(&[&[1], &[2], &[1], &[2], &[3]]), &[0], &[1, 3, 2, 4, 5], &[5, 4, 2, 3, 1]);
+}
+
+#[test]
+fn k3_a_list_of_all_columns_leaves_only_identical_rows_equal() {
+    let tables = [table(&[&[2, 1], &[1, 5], &[2, 1], &[1, 4], &[1, 5]])];
+    let sorted = |down, list: &[u8]| rows(&tables, &sort(down, list, scan(0, 0)));
+    assert_eq!(sorted(false, &[0, 1]), [[1, 4], [1, 5], [1, 5], [2, 1], [2, 1]]);
+    assert_eq!(sorted(true, &[0, 1]), [[2, 1], [2, 1], [1, 5], [1, 5], [1, 4]]);
+    assert_eq!(sorted(false, &[1, 0]), [[2, 1], [2, 1], [1, 4], [1, 5], [1, 5]]);
+    assert_eq!(sorted(true, &[1, 0]), [[1, 5], [1, 5], [1, 4], [2, 1], [2, 1]]);
+}
+
+/// All lists of one or more of these ids, none twice.
+fn all_lists(ids: &[u8]) -> Vec<Vec<u8>> {
+    let longer = |list: &Vec<u8>| -> Vec<Vec<u8>> {
+        ids.iter().filter(|id| !list.contains(id)).map(|&id| [&list[..], &[id]].concat()).collect()
+    };
+    let mut all = Vec::new();
+    let mut longest = vec![vec![]];
+    for _ in ids {
+        longest = longest.iter().flat_map(longer).collect();
+        all.extend(longest.clone());
+    }
+    all
+}
+
+#[test]
+fn k3_the_mirror_holds_for_every_list_of_columns() {
+    let cells = numbered(&[
+        &[1, BLANK, 5],
+        &[1, 3, 5],
+        &[OFF_SCALE, BLANK, 4],
+        &[1, BLANK, 5],
+        &[BLANK, 3, 4],
+        &[OFF_SCALE, 3, 5],
+        &[BLANK, 3, 5],
+        &[1, BLANK, 4],
+        &[OFF_SCALE, BLANK, 4],
+    ]);
+    let lists = all_lists(&[0, 1, 2, 3]);
+    assert_eq!(lists.len(), 4 + 12 + 24 + 24);
+    for list in lists {
+        let sorted = |down| rows(slice::from_ref(&cells), &sort(down, &list, scan(0, 0)));
+        let (upward, downward) = (sorted(false), sorted(true));
+        assert!(downward.iter().eq(upward.iter().rev()), "{list:?}");
+        // Each row before the next one: by the listed cells, and where all are equal by its number.
+        let place = |row: &Vec<i32>| -> Vec<i32> { list.iter().chain(&[3]).map(|&id| row[usize::from(id)]).collect() };
+        assert!(upward.windows(2).all(|two| place(&two[0]) < place(&two[1])), "upward by {list:?}");
+        assert!(downward.windows(2).all(|two| place(&two[0]) > place(&two[1])), "downward by {list:?}");
+        assert_eq!(downward.len(), 9);
+    }
+}
+
+/// Scores and their players. Downward by score the rows are 1, 6, 4, 2, 7, 5, 3, and the players come first in the order 5, 9, 4, 7. With equal
+/// scores kept as they came the rows would be 1, 2, 4, 6, 3, 5, 7, and the players 5, 7, 4, 9.
+fn scores_and_players() -> Table {
+    numbered(&[&[40, 5], &[36, 7], &[31, 9], &[36, 4], &[31, 7], &[36, 9], &[31, 9]])
+}
+
+#[test]
+fn k3_rows_above_a_downward_sort() {
+    let tables = [scores_and_players(), one_column(&[7, 9])];
+    let list = || sort(true, &[10], scan(0, 10));
+    let players = [[5], [9], [4], [7], [9], [7], [9]];
+    assert_eq!(rows(&tables, &project(&[11], list())), players);
+    // First occurrences: of players, of scores, and of both.
+    assert_eq!(rows(&tables, &distinct(&[11], list())), [[5], [9], [4], [7]]);
+    assert_eq!(rows(&tables, &distinct(&[10], list())), [[40], [36], [31]]);
+    let both = [[5, 40], [9, 36], [4, 36], [7, 36], [9, 31], [7, 31]];
+    assert_eq!(rows(&tables, &distinct(&[11, 10], list())), both);
+    let sums = group(Aggregate::Sum(10), 20, keys(21, Equal, 11), list());
+    assert_eq!(rows(&tables, &sums), [[5, 40], [9, 98], [4, 36], [7, 67]]);
+    // By score a Group is as it was.
+    let counts = group(Aggregate::Count, 20, keys(21, Equal, 10), list());
+    assert_eq!(rows(&tables, &counts), [[40, 1], [36, 3], [31, 3]]);
+    // Over the Sort twice, which keeps equal rows as they came.
+    let kept = || sort(true, &[10], list());
+    assert_eq!(rows(&tables, &distinct(&[11], kept())), [[5], [7], [4], [9]]);
+    let sums = group(Aggregate::Sum(10), 20, keys(21, Equal, 11), kept());
+    assert_eq!(rows(&tables, &sums), [[5, 40], [7, 67], [4, 36], [9, 98]]);
+    // In an inner plan, below and above the Select that names the left row.
+    let own = columns_test(0, Equal, 11);
+    for inner in [select(own, list()), sort(true, &[10], select(own, scan(0, 10)))] {
+        let cards = [[7, 36, 7, 2], [7, 31, 7, 5], [9, 36, 9, 6], [9, 31, 9, 7], [9, 31, 9, 3]];
+        assert_eq!(rows(&tables, &each(scan(1, 0), inner)), cards);
+    }
+}
+
+/// Scores and players; then the players as they come first in the downward list, and as they would with equal scores kept as they came.
+fn with_players_in_sequence() -> [Table; 3] {
+    [scores_and_players(), one_column(&[5, 9, 4, 5, 7]), one_column(&[5, 7, 4, 4, 9])]
+}
+
+#[test]
+fn k3_sequences_over_a_downward_sort() {
+    let tables = with_players_in_sequence();
+    let list = sort(true, &[10], scan(0, 10));
+    let of_list = distinct(&[11], list.clone());
+    let of_table = |table| distinct(&[0], scan(table, 0));
+    // The list as f, then in e: U3, U4 and U6 fit with table 1, where they did not, and not with table 2, where they did. The sequences
+    // 5, 9, 4, 7 and 5, 7, 4, 9 differ at 1 and 3.
+    assert_eq!(note_of(&tables, (&of_table(1), 0), (&list, 11)), None);
+    assert_eq!(note_of(&tables, (&of_table(2), 0), (&list, 11)), Some(1));
+    assert_eq!(note_of(&tables, (&of_list, 11), (&scan(1, 0), 0)), None);
+    assert_eq!(note_of(&tables, (&of_list, 11), (&scan(2, 0), 0)), Some(1));
+    // Over the Sort twice, which keeps equal rows as they came, it is the other way round.
+    let kept = sort(true, &[10], list.clone());
+    let of_kept = distinct(&[11], kept.clone());
+    assert_eq!(note_of(&tables, (&of_table(1), 0), (&kept, 11)), Some(1));
+    assert_eq!(note_of(&tables, (&of_table(2), 0), (&kept, 11)), None);
+    assert_eq!(note_of(&tables, (&of_kept, 11), (&scan(1, 0), 0)), Some(1));
+    assert_eq!(note_of(&tables, (&of_kept, 11), (&scan(2, 0), 0)), None);
+}
+
+#[test]
+fn k3_sequences_of_two_lists() {
+    let tables = [scores_and_players(), numbered(&[&[36, 7], &[36, 9], &[36, 4], &[36, 7]])];
+    let list = |table, down, first| sort(down, &[first], scan(table, first));
+    let note = |table, e_down, f_down| {
+        let e = distinct(&[11], list(table, e_down, 10));
+        note_of(&tables, (&e, 11), (&list(table, f_down, 20), 21))
+    };
+    // Two lists of one direction have one sequence.
+    for table in [0, 1] {
+        assert_eq!(note(table, true, true), None);
+        assert_eq!(note(table, false, false), None);
+    }
+    // Downward 5, 9, 4, 7, and upward 9, 7, 4, 5.
+    assert_eq!(note(0, true, false), Some(0));
+    assert_eq!(note(0, false, true), Some(0));
+    // All scores equal: downward 7, 4, 9, and upward 7, 9, 4. With equal rows kept as they came the two directions were one.
+    assert_eq!(note(1, true, false), Some(1));
+    assert_eq!(note(1, false, true), Some(1));
+    // By the listed column itself equal rows decide nothing: downward 40, 36, 31 either way.
+    let (once, twice) = (list(0, true, 10), sort(true, &[20], list(0, true, 20)));
+    assert_eq!(note_of(&tables, (&distinct(&[10], once), 10), (&twice, 20)), None);
+}
+
+#[test]
+fn k3_notes_over_a_downward_sort_give_the_smallest_position() {
+    let list = sort(true, &[10], scan(0, 10));
+    let kept = sort(true, &[10], list.clone());
+    let note = |players: &[i32], f: &Plan| {
+        let tables = [scores_and_players(), one_column(players)];
+        note_of(&tables, (&distinct(&[0], scan(1, 0)), 0), (f, 11))
+    };
+    // Players, and the positions beside 5, 9, 4, 7 of the list and beside 5, 7, 4, 9 of equal rows as they came.
+    let notes: [(&[i32], usize, usize); 6] = [
+        (&[5, 9, 4], 3, 1),
+        (&[5, 9, 7, 4], 2, 1),
+        (&[5, 7, 9, 4], 1, 2),
+        (&[9, 5, 4, 7], 0, 0),
+        (&[5, 9, 4, 7, 8], 4, 1),
+        (&[5, 7, 4, BLANK], 1, 3),
+    ];
+    for (players, position, with_kept) in notes {
+        assert_eq!(note(players, &list), Some(position), "{players:?}");
+        assert_eq!(note(players, &kept), Some(with_kept), "{players:?}");
+    }
+}
+
+#[test]
+fn k3_u3_makes_a_group_of_the_downward_sort() {
+    let tables = with_players_in_sequence();
+    let list = || sort(true, &[10], scan(0, 10));
+    let with = |table, right| semi(0, 11, ALWAYS, distinct(&[0], scan(table, 0)), right);
+    let below_36 = number_test(10, Less, 36);
+    let counted = with_test(group(Aggregate::Count, 1, keys(0, Equal, 11), list()), below_36);
+    let expected = project(&[0], select(number_test(1, Greater, 0), counted));
+    assert_eq!(fit(&with(1, select(below_36, list())), 0, &tables), Some((3, expected.clone())));
+    assert_eq!(rows(&tables, &expected), [[9], [7]]);
+    assert_eq!(fit(&with(2, select(below_36, list())), 0, &tables), None);
+    // A Select below the Sort stays there: the scores below 36 alone have the players 9, 7.
+    let few = sort(true, &[10], select(below_36, scan(0, 10)));
+    assert_eq!(fit(&with(1, few.clone()), 0, &tables), None);
+    assert_eq!(stay_position(&with(1, few), 0, &tables), Some(0));
+}
+
+/// Checks the steps and the rows as `unnests_by` does, and the note for place 0 of the plan that is left.
+fn stays_after<const WIDTH: usize>(
+    tables: &[Table],
+    plan: &Plan,
+    rules: &[u8],
+    expected: &[[i32; WIDTH]],
+    position: Option<usize>,
+) {
+    unnests_by(tables, plan, rules, expected);
+    let left = unnest(&write_set(tables), &write_plan(plan), ROOMY, ROOMY, ROOMY).expect("steps").plan;
+    assert_eq!(stay_note(&write_set(tables), &left, 0, ROOMY), Ok(position));
+}
+
+#[test]
+fn k3_steps_over_a_downward_sort() {
+    let tables = with_players_in_sequence();
+    let inner = || select(columns_test(0, Equal, 11), sort(true, &[10], scan(0, 10)));
+    let players = |table| distinct(&[0], scan(table, 0));
+    let (below_36, over_31) = (number_test(10, Less, 36), number_test(10, Greater, 31));
+    let of_one = |table| some(below_36, players(table), inner());
+    let of_all = |table| every(over_31, players(table), inner());
+    let sums = |table| fold(Aggregate::Sum(10), 20, ALWAYS, players(table), inner());
+    // The last step of the first three was not taken with equal rows kept as they came; that of the last three is no longer taken.
+    stays_after(&tables, &of_one(1), &[1, 7, 3], &[[9], [7]], None);
+    stays_after(&tables, &of_all(1), &[2, 7, 4], &[[5], [4]], None);
+    stays_after(&tables, &sums(1), &[5, 6], &[[5, 40], [9, 98], [4, 36], [7, 67]], None);
+    stays_after(&tables, &of_one(2), &[1, 7], &[[7], [9]], Some(1));
+    stays_after(&tables, &of_all(2), &[2, 7], &[[5], [4]], Some(1));
+    stays_after(&tables, &sums(2), &[5], &[[5, 40], [7, 67], [4, 36], [9, 98]], Some(1));
+}
+
+#[test]
+fn k3_steps_of_a_distinct_over_a_downward_sort() {
+    let tables = with_players_in_sequence();
+    let players = || distinct(&[11], sort(true, &[10], scan(0, 10)));
+    let inner = |table| select(columns_test(11, Equal, 0), scan(table, 0));
+    let over_4 = number_test(0, Greater, 4);
+    // Here too the last step comes with table 1, where it did not, and goes with table 2. The players stay in the order of e.
+    let of_one = |table| some(over_4, players(), inner(table));
+    stays_after(&tables, &of_one(1), &[1, 7, 3], &[[5], [9], [7]], None);
+    stays_after(&tables, &of_one(2), &[1, 7], &[[5], [9], [7]], Some(1));
+    let of_all = |table| every(over_4, players(), inner(table));
+    stays_after(&tables, &of_all(1), &[2, 7, 4], &[[5], [9], [7]], None);
+    stays_after(&tables, &of_all(2), &[2, 7], &[[5], [9], [7]], Some(1));
+    let counts = |table| fold(Aggregate::Count, 20, ALWAYS, players(), inner(table));
+    stays_after(&tables, &counts(1), &[5, 6], &[[5, 2], [9, 1], [4, 1], [7, 1]], None);
+    stays_after(&tables, &counts(2), &[5], &[[5, 1], [9, 1], [4, 2], [7, 1]], Some(1));
 }
 
 #[test]
