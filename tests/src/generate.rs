@@ -3,6 +3,8 @@
 use crate::build::*;
 use crate::cells::{BLANK, LARGEST, OFF_SCALE};
 use crate::check::{bound, check_tree};
+use crate::downward::keeping_equal_rows;
+use crate::evaluate::{column_cells, first_occurrences};
 use crate::nodes::write_plan;
 use crate::plan::{Aggregate, Comparison, Form, Keys, Plan, Test, ALWAYS, COMPARISONS};
 use crate::random::Random;
@@ -554,14 +556,17 @@ pub fn bound_grows(random: &mut Random) -> Input {
 /// A Semi, Anti or Pair of a Distinct of table 0 with table 1, each of one column, that is right for its rule if the sequences
 /// are equal.
 fn of_two_columns(random: &mut Random) -> Plan {
-    let left = Box::new(Plan::Distinct { list: vec![0], child: Box::new(Plan::Scan { table: 0, first: 0 }) });
-    let right = Box::new(Plan::Scan { table: 1, first: 1 });
+    of_two_keys(random, (distinct(&[0], scan(0, 0)), 0), (scan(1, 1), 1))
+}
+
+/// A Semi, Anti or Pair of two plans, each with its key. Neither plan introduces the id 2.
+fn of_two_keys(random: &mut Random, (left, left_key): (Plan, u8), (right, right_key): (Plan, u8)) -> Plan {
     match random.below(3) {
-        0 => Plan::Semi { left_key: 0, right_key: 1, test: ALWAYS, left, right },
-        1 => Plan::Anti { left_key: 0, right_key: 1, test: ALWAYS, left, right },
+        0 => semi(left_key, right_key, ALWAYS, left, right),
+        1 => anti(left_key, right_key, ALWAYS, left, right),
         _ => {
-            let keys = Keys { left: 0, comparison: random.pick(&COMPARISONS), right: 1 };
-            Plan::Pair { aggregate: Aggregate::Sum(1), new: 2, keys, test: ALWAYS, left, right }
+            let keys = keys(left_key, random.pick(&COMPARISONS), right_key);
+            pair(Aggregate::Sum(right_key), 2, keys, left, right)
         }
     }
 }
@@ -669,6 +674,66 @@ pub fn unequal(random: &mut Random) -> Input {
         _ => group(aggregate, 50, keys(51, comparison, key), right),
     };
     Input { tables, plan }
+}
+
+/// A plan with a downward Sort over rows that are often equal in all listed columns. Their order decides the report of a node above it, or
+/// the sequences of a Semi, an Anti or a Pair, so that U3, U4 or U6 fits or does not.
+pub fn downward(random: &mut Random) -> Input {
+    let mut tables = vec![equal_scores(random)];
+    let list = downward_list(random, 10);
+    if random.chance(40) {
+        return Input { tables, plan: over_list(random, list) };
+    }
+    // A table of the players, or of the numbers, in the list's order or in that of a list which keeps equal rows as they came.
+    let key = random.pick(&[11, 12]);
+    let order = if random.chance(50) { list.clone() } else { keeping_equal_rows(&list) };
+    let values = first_occurrences(&column_cells(&order, key, &tables));
+    let height = if values.is_empty() { 0 } else { values.len() + random.below(3) };
+    tables.push(one_column(&run_through(random, &values, height)));
+    // The list stands in f, in e, or in both, there as two lists of one table.
+    let (e, f) = match random.below(3) {
+        0 => ((distinct(&[0], scan(1, 0)), 0), (list, key)),
+        1 => ((distinct(&[key], list), key), (scan(1, 0), 0)),
+        _ => ((distinct(&[key], list), key), (downward_list(random, 20), key + 10)),
+    };
+    let of_f = number_test(f.1, random.pick(&COMPARISONS), number(random));
+    let test = if random.chance(30) { of_f } else { ALWAYS };
+    Input { tables, plan: with_test(of_two_keys(random, e, f), test) }
+}
+
+/// A table of a score and a player, each out of a few codes, and of the row's number, which tells equal rows apart.
+fn equal_scores(random: &mut Random) -> Table {
+    let scores = [0; 2].map(|_| random.pick(&[BLANK, OFF_SCALE, 31, 36]));
+    let players = [code(random), code(random), code(random), 5, 6];
+    let height = if random.chance(5) { random.below(3) } else { random.between(3, 10) };
+    let row = |number: usize| vec![random.pick(&scores), random.pick(&players), number as i32];
+    Table { columns: 3, rows: (0..height).map(row).collect() }
+}
+
+/// A downward Sort of table 0, whose ids begin here: mostly alone, else over a Sort or under one.
+fn downward_list(random: &mut Random, first: u8) -> Plan {
+    let (score, player) = (first, first + 1);
+    let lists = [vec![score], vec![score], vec![player], vec![score, player], vec![player, score]];
+    let (own, other) = (random.pick(&lists), random.pick(&lists));
+    let down = |child| sort(true, &own, child);
+    match random.below(8) {
+        0 => down(down(scan(0, first))),
+        1 => down(sort(random.chance(50), &other, scan(0, first))),
+        2 => sort(random.chance(50), &other, down(scan(0, first))),
+        _ => down(scan(0, first)),
+    }
+}
+
+/// A node over a list of table 0 whose rows come in an order that the list decides, or the list itself.
+fn over_list(random: &mut Random, list: Plan) -> Plan {
+    let ids = random.pick(&[vec![10], vec![11], vec![12], vec![11, 10], vec![12, 11]]);
+    match random.below(6) {
+        0 => list,
+        1 => project(&ids, list),
+        2 | 3 => distinct(&ids, list),
+        4 => sort(random.chance(50), &ids, list),
+        _ => group(Aggregate::Sum(12), 50, keys(51, random.pick(&COMPARISONS), 11), list),
+    }
 }
 
 /// A list of steps to try on a plan: some fit where they stand, some do not.

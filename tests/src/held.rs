@@ -9,8 +9,9 @@ use crate::cases::{damaged_once, fault_case};
 use crate::cells::{BLANK, OFF_SCALE};
 use crate::check::need;
 use crate::damage::{faults, Fault};
+use crate::downward::{decided_by_equal_rows, sorts_with_equal_rows};
 use crate::evaluate::{column_cells, first_occurrences};
-use crate::generate::{accepted, code, common_beginning, steps, totals, unequal, Input};
+use crate::generate::{accepted, code, common_beginning, downward, steps, totals, unequal, Input};
 use crate::plan::Comparison::{Equal, NotEqual};
 use crate::plan::{Aggregate, Form, Plan, Test, COMPARISONS};
 use crate::random::Random;
@@ -37,6 +38,10 @@ pub struct Counts {
     pub sums: [usize; 3],
     /// Sides that a plan's first node compared by ≠, in a Select, a Pair and a Group: one blank, both blank, one or both off scale.
     pub unequal: [[usize; 3]; 3],
+    /// Downward Sorts that had rows equal in all listed columns.
+    pub equal_rows: usize,
+    /// Plans with such Sorts where the order of equal rows decided the report, the rules of the steps, the first node's note.
+    pub decided: [usize; 3],
 }
 
 impl Counts {
@@ -57,6 +62,7 @@ impl Counts {
             + &format!("where just one sequence has ended {}\n", self.ended)
             + &format!("sums that are numbers {}, blank {}, off scale {}\n", self.sums[0], self.sums[1], self.sums[2])
             + &self.unequal_line()
+            + &self.downward_line()
             + &format!("steps of the unnesting call{}\n", by_rule(&self.rules))
             + &format!("tried steps that fitted{}, that did not {}\n", by_rule(&self.tried), self.tried[0])
     }
@@ -68,6 +74,23 @@ impl Counts {
         };
         let kinds = ["Select", "Pair", "Group"].into_iter().zip(self.unequal).map(of_kind);
         format!("sides of ≠: {}\n", kinds.collect::<Vec<_>>().join("; "))
+    }
+
+    /// The counts of downward Sorts, as a line of text.
+    pub fn downward_line(&self) -> String {
+        let [reports, steps, notes] = self.decided;
+        format!("downward Sorts with rows equal in all listed columns {}, ", self.equal_rows)
+            + &format!("whose order decided the report {reports}, the steps {steps}, the first node's note {notes}\n")
+    }
+
+    /// Counts the downward Sorts of an accepted plan that have rows equal in all listed columns, and what their order decides.
+    fn count_downward(&mut self, plan: &Plan, tables: &[Table]) {
+        let sorts = sorts_with_equal_rows(plan, tables);
+        if sorts > 0 {
+            self.equal_rows += sorts;
+            let decided = decided_by_equal_rows(plan, tables);
+            self.decided.iter_mut().zip(decided).for_each(|(count, decided)| *count += usize::from(decided));
+        }
     }
 
     /// Counts the sides that the first node of an accepted plan compares by ≠. Two numbers are not counted.
@@ -139,7 +162,8 @@ pub fn hold_seeds(seed: u64, count: u64, counts: &mut Counts) -> Result<(), Stri
 /// A random input: accepted; with one fault or two; or with bytes changed, cut off or put on anywhere.
 fn drawn(random: &mut Random, faults: &[Fault]) -> (Vec<u8>, Vec<u8>) {
     match random.below(100) {
-        0..=52 => bytes_of(&accepted(random)),
+        0..=50 => bytes_of(&accepted(random)),
+        51..=52 => bytes_of(&downward(random)),
         53..=54 => bytes_of(&unequal(random)),
         55..=56 => bytes_of(&totals(random)),
         57..=58 => bytes_of(&common_beginning(random)),
@@ -239,6 +263,7 @@ pub fn hold_report(random: &mut Random, set: &[u8], plan: &[u8], counts: &mut Co
             let report = calls::report_of(&tree, &tables);
             counts.count_sums(&tree, &report);
             counts.count_unequal(&tree, &tables);
+            counts.count_downward(&tree, &tables);
             (report.codes.len(), need(&tree, &tables) as usize)
         }
         Err(_) => (random.below(9), random.below(5000)),

@@ -13,6 +13,7 @@ pub mod cases;
 pub mod cells;
 pub mod check;
 pub mod damage;
+pub mod downward;
 pub mod drawings;
 pub mod edges;
 pub mod evaluate;

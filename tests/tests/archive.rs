@@ -34,6 +34,7 @@ mod held {
         assert!(met(&counts.notes, 100) && counts.ended >= 100, "{:?}, {}", counts.notes, counts.ended);
         assert!(met(&counts.sums, 200), "{:?}", counts.sums);
         assert!(counts.unequal.iter().all(|sides| met(sides, 100)), "{:?}", counts.unequal);
+        assert!(counts.equal_rows >= 200 && met(&counts.decided, 40), "{}, {:?}", counts.equal_rows, counts.decided);
     }
 
     #[test]
@@ -98,9 +99,11 @@ mod held {
     /// Cells that decide an aggregate or a comparison: the two codes that are no numbers, the ends of the range, 1 and 0.
     const CELLS: [i32; 6] = [BLANK, OFF_SCALE, LARGEST, -LARGEST, 1, 0];
 
-    /// All lists of up to four of them.
-    fn short_lists() -> Vec<Vec<i32>> {
-        let longer = |list: &Vec<i32>| CELLS.map(|cell| [&list[..], &[cell]].concat());
+    /// All lists of up to four of these items.
+    fn short_lists<T: Clone>(items: &[T]) -> Vec<Vec<T>> {
+        let longer = |list: &Vec<T>| -> Vec<Vec<T>> {
+            items.iter().map(|item| list.iter().chain([item]).cloned().collect()).collect()
+        };
         let mut all = vec![vec![]];
         let mut longest = all.clone();
         for _ in 0..4 {
@@ -116,7 +119,7 @@ mod held {
         let mut counts = Counts::default();
         let all_pass = number_test(1, Equal, 7);
         let by_key = keys(0, Equal, 1);
-        for list in short_lists() {
+        for list in short_lists(&CELLS) {
             // The key 7 in each row, and a cell of the list.
             let cells = Table { columns: 2, rows: list.iter().map(|&cell| vec![7, cell]).collect() };
             let set = write_set(&[cells, one_column(&[7])]);
@@ -166,6 +169,44 @@ mod held {
         assert!(differences.is_empty(), "{} differences:\n{}", differences.len(), differences.join("\n"));
         // Each of 6 cells beside each: a number and a blank 8 times, two blanks once, off scale and anything 11 times.
         assert_eq!(counts.unequal[1], [8, 1, 11]);
+    }
+
+    /// The set of a table of these rows of two cells, each with its number in a third column, which tells equal rows apart.
+    fn numbered(cells: &[[i32; 2]]) -> Vec<u8> {
+        let rows = cells.iter().zip(1..).map(|(&[one, other], number)| vec![one, other, number]).collect();
+        write_set(&[Table { columns: 3, rows }])
+    }
+
+    /// The archive's rows of a Sort of such a table, held against the second evaluator.
+    fn sorted(random: &mut Random, set: &[u8], down: bool, list: &[u8], counts: &mut Counts) -> Vec<Vec<i32>> {
+        let plan = write_plan(&sort(down, list, scan(0, 0)));
+        let held = hold_report(random, set, &plan, counts);
+        held.unwrap_or_else(|difference| panic!("down {down}, by {list:?}, {set:?}: {difference}"));
+        let need = need_of(set, &plan).expect("an accepted plan") as usize;
+        let (_, codes) = archive::report(random, set, &plan, 3 * 4, need).expect("no stray write");
+        codes.chunks(3).map(|row| row.to_vec()).collect()
+    }
+
+    #[test]
+    fn k3_downward_lists_are_the_upward_ones_read_backwards() {
+        let mut random = Random::new(9);
+        let mut counts = Counts::default();
+        let codes = [BLANK, 0, OFF_SCALE];
+        let every_two: Vec<[i32; 2]> = codes.iter().flat_map(|&one| codes.map(|other| [one, other])).collect();
+        for cells in short_lists(&every_two) {
+            let set = numbered(&cells);
+            for list in [&[0][..], &[1], &[0, 1], &[1, 0]] {
+                let [upward, downward] = [false, true].map(|down| sorted(&mut random, &set, down, list, &mut counts));
+                assert_eq!(upward.len(), cells.len());
+                assert!(downward.iter().eq(upward.iter().rev()), "by {list:?}: {upward:?} and {downward:?}");
+            }
+        }
+        print!("tables of up to four rows: {}", counts.downward_line());
+        // There are 7,381 tables. In 1 + 9 + 54 + 162 of them no two rows are equal in the first column, in as many none in the second,
+        // and in 1 + 9 + 72 + 504 + 3,024 none in both.
+        assert_eq!(counts.equal_rows, 2 * (7_381 - 226) + 2 * (7_381 - 3_610));
+        // The numbers tell equal rows apart, so each report shows their order.
+        assert_eq!(counts.decided[0], counts.equal_rows);
     }
 }
 

@@ -3,7 +3,8 @@
 
 use second::calls::{read, report_of, unnest_tree};
 use second::check::columns;
-use second::generate::{accepted, common_beginning, steps, totals, unequal};
+use second::downward::{decided_by_equal_rows, sorts_with_equal_rows};
+use second::generate::{accepted, common_beginning, downward, steps, totals, unequal, Input};
 use second::nodes::write_plan;
 use second::plan::Comparison::NotEqual;
 use second::plan::{Form, Plan, Test};
@@ -27,13 +28,14 @@ fn unnesting_keeps_the_report() {
     let mut unequal_steps = [0usize; 9];
     let mut kinds = [0usize; 15];
     let mut longest = 0;
-    for seed in 0..PLANS + 800 {
+    for seed in 0..PLANS + 1200 {
         let mut random = Random::new(seed);
-        // After the plans of every sort, sums over blanks and comparisons with blanks in turn.
-        let input = match seed.checked_sub(PLANS) {
+        // After the plans of every sort, sums over blanks, comparisons with blanks and downward lists in turn.
+        let input = match seed.checked_sub(PLANS).map(|further| further % 3) {
             None => accepted(&mut random),
-            Some(further) if further % 2 == 0 => totals(&mut random),
-            Some(_) => unequal(&mut random),
+            Some(0) => totals(&mut random),
+            Some(1) => unequal(&mut random),
+            Some(_) => downward(&mut random),
         };
         let (tables, tree) = read(&input.set_bytes(), &input.plan_bytes()).expect("an accepted plan");
         assert_eq!((&tables, &tree), (&input.tables, &input.plan));
@@ -88,9 +90,13 @@ fn any_list_of_steps_keeps_the_report() {
 #[test]
 fn a_stay_note_stands_only_where_no_rule_fits() {
     let (mut notes, mut ended) = ([0usize; 2], 0usize);
-    for seed in 0..4_400 {
+    for seed in 0..4_800 {
         let mut random = Random::new(2_000_000 + seed);
-        let input = if seed < 4_000 { accepted(&mut random) } else { common_beginning(&mut random) };
+        let input = match seed {
+            0..4_000 => accepted(&mut random),
+            4_000..4_400 => common_beginning(&mut random),
+            _ => downward(&mut random),
+        };
         for place in 0..input.plan.size() + 2 {
             let Some(position) = stay_position(&input.plan, place, &input.tables) else {
                 continue;
@@ -106,4 +112,18 @@ fn a_stay_note_stands_only_where_no_rule_fits() {
     }
     println!("stay notes with position 0 and with a later one {notes:?}, where just one sequence has ended {ended}");
     assert!(notes.iter().all(|&count| count > 100) && ended > 100, "{notes:?}, {ended}");
+}
+
+#[test]
+fn k3_the_order_of_equal_rows_decides_reports_steps_and_notes() {
+    let mut sorts = 0;
+    let mut counts = [0usize; 3];
+    for seed in 0..1_000 {
+        let Input { tables, plan } = downward(&mut Random::new(3_000_000 + seed));
+        sorts += sorts_with_equal_rows(&plan, &tables);
+        let decided = decided_by_equal_rows(&plan, &tables);
+        counts.iter_mut().zip(decided).for_each(|(count, decided)| *count += usize::from(decided));
+    }
+    println!("downward Sorts with equal rows {sorts}; reports, steps and notes that their order decides {counts:?}");
+    assert!(sorts > 700 && counts.iter().all(|&count| count > 100), "{sorts}, {counts:?}");
 }
