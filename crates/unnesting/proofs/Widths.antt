@@ -2,13 +2,14 @@
 use Prim.Native.Nat.{ℕ, _+_, _*_}
 use mathlib.Core.Bool.{Bool, true, false, not, cond}
 use mathlib.Core.Path.{_≡_, refl, sym, _∙_}
-use mathlib.Core.List.{List, [], _∷_, _++_, map, reverseAux}
+use mathlib.Core.List.{List, [], _∷_, _++_, map}
 use native.Mathlib.Omega.{arith}
 use native.Mathlib.Nat.{zero-mul, suc-mul}
 use lib.ListN.{length, replicate, length-append, length-map, length-replicate}
-use Rattle.algebra.specs.Lists.{flip, filter, any, flatMap, insert, sorted, same, firsts, upward}
+use Rattle.algebra.specs.Lists.{flip, filter, any, flatMap, same, firsts, upward}
 use Rattle.algebra.specs.Cells.{eq, blank}
-use Rattle.algebra.specs.Plans.{Row, Env, Tables, holds, bind, matched, quantify, cut, precedes, arranged, Leaf, unit, scan, Unary, select, project, distinct, group, sort, Binary, cross, semi, quant, fold, each, pair, Plan, leaf, one, two, nested, around, leafColumns, unaryColumns, binaryColumns, columns, emit, act, joined, leafRows, eval}
+use Rattle.algebra.specs.Plans.{Row, Env, Tables, holds, bind, matched, quantify, cut, arranged, Leaf, unit, scan, Unary, select, project, distinct, group, sort, Binary, cross, semi, quant, fold, each, pair, Plan, leaf, one, two, nested, around, leafColumns, unaryColumns, binaryColumns, columns, emit, act, joined, leafRows, eval}
+use Rattle.algebra.proofs.Sorting.{All, all-arranged}
 use Rattle.reading.specs.TableSet.{columnsOf, rowsOf, tableFrom, tableCell, tableRows, tablesOf}
 use Rattle.reading.proofs.Places.{upward-length}
 
@@ -38,22 +39,14 @@ wide-firsts : {w : ℕ} {rs : List Row} → Wide w rs → Wide w (firsts rs)
 wide-firsts nothing = nothing
 wide-firsts (more {r = r} e h) = more e (wide-filter (λ q. not (same r q)) (wide-firsts h))
 
-wide-insert : {w : ℕ} (before : Row → Row → Bool) (r : Row) {rs : List Row} → length r ≡ w → Wide w rs → Wide w (insert before r rs)
-wide-insert before r e nothing = more e nothing
-wide-insert {w} before r e (more {r = q} {rs = rs} k h) =
-    elim (before q r) as (λ b. Wide w (cond b (q ∷ insert before r rs) (r ∷ q ∷ rs))) [ true ↦ more k (wide-insert before r e h) | false ↦ more e (more k h) ]
+-- the same as a property of every row, for which the algebra has a law of Sort
+wide-all : {w : ℕ} {rs : List Row} → Wide w rs → All (λ r. length r ≡ w) rs
+wide-all nothing = tt
+wide-all (more e h) = (e, wide-all h)
 
-wide-sorted : {w : ℕ} (before : Row → Row → Bool) {rs : List Row} → Wide w rs → Wide w (sorted before rs)
-wide-sorted before nothing = nothing
-wide-sorted before (more {r = r} e h) = wide-insert before r e (wide-sorted before h)
-
-wide-reverse : {w : ℕ} {rs ss : List Row} → Wide w rs → Wide w ss → Wide w (reverseAux rs ss)
-wide-reverse nothing k = k
-wide-reverse (more e h) k = wide-reverse h (more e k)
-
-wide-arranged : {w : ℕ} (d : Bool) (key : Row → List ℕ) {rs : List Row} → Wide w rs → Wide w (arranged d key rs)
-wide-arranged true key h = wide-reverse (wide-sorted (λ q r. precedes (key q) (key r)) h) nothing
-wide-arranged false key h = wide-sorted (λ q r. precedes (key q) (key r)) h
+all-wide : (w : ℕ) (rs : List Row) → All (λ r. length r ≡ w) rs → Wide w rs
+all-wide w [] h = nothing
+all-wide w (r ∷ rs) h = more (h .0) (all-wide w rs (h .1))
 
 -- what each row of a list gives is wide, so all of it is
 wide-flatMap : {v w : ℕ} (f : Row → List Row) {rs : List Row} → Wide v rs → ((r : Row) → length r ≡ v → Wide w (f r)) → Wide w (flatMap f rs)
@@ -91,7 +84,7 @@ act-wide (group g n l r c t) cs env rs h =
     wide-flatMap (λ v. emit (pair g n l r c t) cs v (bind (l ∷ []) v env) rs)
     (wide-firsts (wide-map (cut (r ∷ []) cs env) rs (cut-length (r ∷ []) cs env)))
     (λ v e. emit-wide (pair g n l r c t) (l ∷ []) cs v (bind (l ∷ []) v env) rs e h)
-act-wide (sort d ids) cs env rs h = wide-arranged d (cut ids cs env) h
+act-wide (sort d ids) cs env rs h = all-wide (length cs) (arranged d (cut ids cs env) rs) (all-arranged (λ r. length r ≡ length cs) d (cut ids cs env) rs (wide-all h))
 
 module _ (T : Tables) (tables : (t : ℕ) → Wide (T .width t) (T .rows t)) where
   leaf-wide : (x : Leaf) → Wide (length (leafColumns T x)) (leafRows T x)
