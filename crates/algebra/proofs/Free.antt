@@ -47,6 +47,20 @@ bind-same (c ∷ cs) (v ∷ r) f g x h =
       | false ↦ λ k. bind-same cs r f g x k
     ]) h
 
+-- and a column that the row lacks is read outside of it
+pub bind-outside : (cs : List ℕ) (r : Row) (f : Env) (x : ℕ) → member x cs ≡ false → bind cs r f x ≡ f x
+bind-outside [] r f x h = refl
+bind-outside (c ∷ cs) [] f x h =
+    (elim (eqb x c) as (λ b. (b || member x cs) ≡ false → cond b blank (bind cs [] f x) ≡ f x) [
+      | true ↦ λ k. absurd (true≢false k)
+      | false ↦ λ k. bind-outside cs [] f x k
+    ]) h
+bind-outside (c ∷ cs) (v ∷ r) f x h =
+    (elim (eqb x c) as (λ b. (b || member x cs) ≡ false → cond b v (bind cs r f x) ≡ f x) [
+      | true ↦ λ k. absurd (true≢false k)
+      | false ↦ λ k. bind-outside cs r f x k
+    ]) h
+
 pub bind-agree : (xs cs : List ℕ) (r : Row) {f g : Env} → Agree f g (minus xs cs) → Agree (bind cs r f) (bind cs r g) xs
 bind-agree [] cs r h = none
 bind-agree (x ∷ xs) cs r {f} {g} h =

@@ -6,9 +6,11 @@ pub mod Sorting
 pub mod Free
 pub mod Change
 pub mod Places
+pub mod Between
 pub mod Sound
 pub mod Bounds
 pub mod Refusals
 pub mod Readings
+pub mod Fine
 pub mod Steps
 pub mod StayNotes

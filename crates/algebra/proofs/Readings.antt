@@ -15,8 +15,8 @@ use Rattle.algebra.specs.Refusals.{unaryInView, binaryInView, innerScope
 use Rattle.algebra.specs.Rules.{outside}
 use Rattle.algebra.proofs.Lists.{every-true, unique-left, unique-right}
 use Rattle.algebra.proofs.Refusals.{refusal-once, refusal-in-view, once-unique, in-view-one, in-view-two}
-use Rattle.algebra.proofs.Free.{Agree, more, map-agree, bind-same, holds-agree, measure-agree}
-use Rattle.algebra.proofs.Sound.{bind-outside, local-agree, Singles, empty, single, singles-cut, singles-firsts}
+use Rattle.algebra.proofs.Free.{Agree, more, map-agree, bind-same, bind-outside, holds-agree, measure-agree}
+use Rattle.algebra.proofs.Sound.{local-agree, Singles, empty, single, singles-cut, singles-firsts}
 
 -- ---- the rows, each name read of its own row
 -- the cells of a row of these columns, and of nothing else
@@ -61,25 +61,25 @@ readEval T (two b e f) env =
     flatMap (λ l. readEmit b (columns T e) (columns T f) l env (readEval T f (around (nested b) env (bind (columns T e) l env)))) (readEval T e env)
 
 -- ---- membership
-abbrev In : ℕ → List ℕ → Type 0
+abbrev pub In : ℕ → List ℕ → Type 0
 In x xs = member x xs ≡ true
 
-in-left : (x : ℕ) (xs ys : List ℕ) → In x xs → In x (xs ++ ys)
+pub in-left : (x : ℕ) (xs ys : List ℕ) → In x xs → In x (xs ++ ys)
 in-left x [] ys h = absurd (false≢true h)
 in-left x (y ∷ xs) ys h =
     (elim (eqb x y) as (λ b. (b || member x xs) ≡ true → (b || member x (xs ++ ys)) ≡ true) [ true ↦ λ k. refl | false ↦ λ k. in-left x xs ys k ]) h
 
-in-right : (x : ℕ) (xs ys : List ℕ) → In x ys → In x (xs ++ ys)
+pub in-right : (x : ℕ) (xs ys : List ℕ) → In x ys → In x (xs ++ ys)
 in-right x [] ys h = h
 in-right x (y ∷ xs) ys h = elim (eqb x y) as (λ b. (b || member x (xs ++ ys)) ≡ true) [ true ↦ refl | false ↦ in-right x xs ys h ]
 
 -- from a membership in two lists joined
-in-cases : {P : Type 0} (x : ℕ) (xs ys : List ℕ) → (In x xs → P) → (In x ys → P) → In x (xs ++ ys) → P
+pub in-cases : {P : Type 0} (x : ℕ) (xs ys : List ℕ) → (In x xs → P) → (In x ys → P) → In x (xs ++ ys) → P
 in-cases x [] ys f g h = g h
 in-cases {P} x (y ∷ xs) ys f g h =
     (elim (eqb x y) as (λ b. ((b || member x xs) ≡ true → P) → (b || member x (xs ++ ys)) ≡ true → P) [ true ↦ λ k l. k refl | false ↦ λ k l. in-cases x xs ys k g l ]) f h
 
-in-within : (x : ℕ) (xs ys : List ℕ) → within xs ys ≡ true → In x xs → In x ys
+pub in-within : (x : ℕ) (xs ys : List ℕ) → within xs ys ≡ true → In x xs → In x ys
 in-within x [] ys h k = absurd (false≢true k)
 in-within x (y ∷ xs) ys h k =
     let (u, v) = and-eq-true-iff (member y ys) (within xs ys) .0 h in
@@ -129,6 +129,14 @@ module _ (T : Tables) where
       let (_, v, w) = in-view-two T scope b e f h in
       binary-introduced b (columns T e) (columns T f) (introduced T e) (introduced T f) x (columns-introduced scope e v x) (columns-introduced inner f w x) k
 
+  -- so an id that is not introduced there is none of them
+  pub not-column : (scope : List ℕ) (p : Plan) → inView T scope p ≡ true → (x : ℕ) → member x (introduced T p) ≡ false → member x (columns T p) ≡ false
+  not-column scope p h x n =
+      (elim (member x (columns T p)) as (λ z. member x (columns T p) ≡ z → z ≡ false) [
+        | true ↦ λ z. absurd (true≢false (sym (columns-introduced scope p h x z) ∙ n))
+        | false ↦ λ z. refl
+      ]) refl
+
   -- the two children of a node share no column
   pub children-apart : (scope : List ℕ) (b : Binary) (e f : Plan) → inView T scope (two b e f) ≡ true → unique (introduced T (two b e f)) ≡ true
       → (x : ℕ) → In x (columns T e) → member x (columns T f) ≡ false
@@ -136,11 +144,7 @@ module _ (T : Tables) where
   children-apart scope b e f h u x k =
       let inner : List ℕ = innerScope (nested b) (columns T e) scope in
       let (_, v, w) = in-view-two T scope b e f h in
-      let n = apart x (introduced T e) (introduced T f) (unique-right (binaryNew b) (introduced T e ++ introduced T f) u) (columns-introduced scope e v x k) in
-      (elim (member x (columns T f)) as (λ z. member x (columns T f) ≡ z → z ≡ false) [
-        | true ↦ λ z. absurd (true≢false (sym (columns-introduced inner f w x z) ∙ n))
-        | false ↦ λ z. refl
-      ]) refl
+      not-column inner f w x (apart x (introduced T e) (introduced T f) (unique-right (binaryNew b) (introduced T e ++ introduced T f) u) (columns-introduced scope e v x k))
 
 -- ---- a name reads of its own row
 -- a column of the row is not read from outside of it
@@ -232,31 +236,28 @@ act-reads scope (sort d ids) cs h n env rs =
 
 -- ---- the whole plan
 -- no id stands in both
-abbrev Apart : List ℕ → List ℕ → Type 0
+abbrev pub Apart : List ℕ → List ℕ → Type 0
 Apart xs ys = (x : ℕ) → In x xs → member x ys ≡ false
 
 -- what is missing in two lists joined is missing in each
-not-left : (x : ℕ) (xs ys : List ℕ) → member x (xs ++ ys) ≡ false → member x xs ≡ false
+pub not-left : (x : ℕ) (xs ys : List ℕ) → member x (xs ++ ys) ≡ false → member x xs ≡ false
 not-left x xs ys h = (elim (member x xs) as (λ z. member x xs ≡ z → z ≡ false) [ true ↦ λ e. absurd (true≢false (sym (in-left x xs ys e) ∙ h)) | false ↦ λ e. refl ]) refl
 
-not-right : (x : ℕ) (xs ys : List ℕ) → member x (xs ++ ys) ≡ false → member x ys ≡ false
+pub not-right : (x : ℕ) (xs ys : List ℕ) → member x (xs ++ ys) ≡ false → member x ys ≡ false
 not-right x xs ys h = (elim (member x ys) as (λ z. member x ys ≡ z → z ≡ false) [ true ↦ λ e. absurd (true≢false (sym (in-right x xs ys e) ∙ h)) | false ↦ λ e. refl ]) refl
 
 module _ (T : Tables) where
   new-ids : (scope : List ℕ) (u : Unary) (p : Plan) → inView T scope p ≡ true → unique (unaryNew u ++ introduced T p) ≡ true → Apart scope (unaryNew u ++ introduced T p)
       → (x : ℕ) → In x (unaryNew u) → (member x (columns T p) ≡ false) × (member x scope ≡ false)
   new-ids scope u p h g s x k = (
-    (elim (member x (columns T p)) as (λ z. member x (columns T p) ≡ z → z ≡ false) [
-      | true ↦ λ e. absurd (true≢false (sym (columns-introduced T scope p h x e) ∙ apart x (unaryNew u) (introduced T p) g k))
-      | false ↦ λ e. refl
-    ]) refl,
+    not-column T scope p h x (apart x (unaryNew u) (introduced T p) g k),
     (elim (member x scope) as (λ z. member x scope ≡ z → z ≡ false) [
       | true ↦ λ e. absurd (true≢false (sym (in-left x (unaryNew u) (introduced T p) k) ∙ s x e))
       | false ↦ λ e. refl
     ]) refl,
   )
 
-  inner-apart : (scope : List ℕ) (b : Bool) (e : Plan) (js : List ℕ) → inView T scope e ≡ true → unique (introduced T e ++ js) ≡ true → Apart scope js
+  pub inner-apart : (scope : List ℕ) (b : Bool) (e : Plan) (js : List ℕ) → inView T scope e ≡ true → unique (introduced T e ++ js) ≡ true → Apart scope js
       → Apart (innerScope b (columns T e) scope) js
   inner-apart scope true e js h g s x k = in-cases x (columns T e) scope (λ i. apart x (introduced T e) js g (columns-introduced T scope e h x i)) (s x) k
   inner-apart scope false e js h g s x k = s x k

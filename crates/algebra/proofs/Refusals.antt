@@ -1,22 +1,20 @@
 -- What the refusals give of a plan that none of them turns back. Assumes nothing.
 use Prim.Native.Nat.{ℕ, suc, _≤_}
-use mathlib.Core.Bool.{Bool, true, false, not, _&&_, _||_, and-eq-true-iff}
-use mathlib.Core.Path.{_≡_, refl, sym, _∙_}
+use mathlib.Core.Bool.{Bool, true, false, not, _&&_, and-eq-true-iff}
+use mathlib.Core.Path.{_≡_, refl}
 use mathlib.Core.List.{List, [], _∷_, _++_}
 use native.Mathlib.Omega.{arith}
 use native.Mathlib.Nat.{le-trans}
 use lib.Dec.{eqb, leb}
 use lib.ListN.{length}
 use borrow.Author.Tests.{eqb-true, leb-true}
-use Rattle.algebra.specs.Lists.{if_then_else_, all, every, member, unique, within}
-use Rattle.algebra.specs.Plans.{Env, Tables, names, Unary, select, project, distinct, group, sort, Binary, Plan, leaf, one, two, nested, columns, eval}
+use Rattle.algebra.specs.Lists.{if_then_else_, all, unique}
+use Rattle.algebra.specs.Plans.{Env, Tables, Unary, Binary, Plan, leaf, one, two, nested, columns, eval}
 use Rattle.algebra.specs.Places.{size, flatten, subtrees}
-use Rattle.algebra.specs.Names.{measured, unaryNew, binaryNew, introduced}
+use Rattle.algebra.specs.Names.{introduced}
 use Rattle.algebra.specs.Refusals.{bound, byte, fields, found, once, unaryInView, binaryInView, innerScope, inView, narrow, low, refusal, passes}
-use Rattle.algebra.proofs.Lists.{all-append, every-true, unique-left, unique-right}
-use Rattle.algebra.proofs.Cells.{eqb-sym}
+use Rattle.algebra.proofs.Lists.{all-append, every-true}
 use Rattle.algebra.proofs.Bounds.{row-bound}
-use Rattle.algebra.proofs.Sound.{UnaryFine, Fine}
 
 -- ---- a test of every subtree holds of the tree, and of every subtree of its children
 module _ (k : Plan → Bool) where
@@ -137,42 +135,7 @@ module _ (T : Tables) (scope : List ℕ) where
       let (u, v) = and-eq-true-iff (inView T scope e) inner .0 l in
       (k, u, v)
 
--- ---- what the soundness of the unnestings asks of the plan after them
-or-false : (a b : Bool) → not (a || b) ≡ true → a ≡ false
-or-false true b h = sym h
-or-false false b h = refl
-
-module _ (T : Tables) where
-  -- a plan within its bound gives at most 4,096 rows
-  pub low-rows : (p : Plan) → low T p ≡ true → (env : Env) → length (eval T p env) ≤ 4096
-  low-rows p h env = le-trans (row-bound T p env) (leb-true (bound T p) 4096 h)
-
-  unary-fine : (scope : List ℕ) (u : Unary) (p : Plan) → unaryInView scope u (columns T p) ≡ true → low T p ≡ true → unique (unaryNew u ++ introduced T p) ≡ true → UnaryFine T u p
-  unary-fine scope (select t) p h v g = tt
-  unary-fine scope (project ids) p h v g = tt
-  unary-fine scope (distinct ids) p h v g = tt
-  unary-fine scope (group a n l r c t) p h v g = (
-    eqb-sym n l ∙ or-false (eqb l n) (member l (introduced T p)) (and-eq-true-iff (not (member l (n ∷ introduced T p))) (unique (n ∷ introduced T p)) .0 g .0),
-    and-eq-true-iff (member r (columns T p)) (every (within (measured a) (columns T p) ∷ within (names t) (columns T p ++ scope) ∷ [])) .0 h .0,
-    low-rows p v,
-  )
-  unary-fine scope (sort d ids) p h v g = tt
-
-  fine : (scope : List ℕ) (p : Plan) → inView T scope p ≡ true → unique (introduced T p) ≡ true → all (low T) (subtrees p) ≡ true → Fine T p
-  unfolding introduced
-  fine scope (leaf x) h g v = tt
-  fine scope (one u p) h g v =
-      let (k, w) = in-view-one T scope u p h in
-      let below = all-child (low T) u p v in
-      (unary-fine scope u p k (all-root (low T) p below) g, fine scope p w (unique-right (unaryNew u) (introduced T p) g) below)
-  fine scope (two b e f) h g v =
-      let (_, k, w) = in-view-two T scope b e f h in
-      let u = unique-right (binaryNew b) (introduced T e ++ introduced T f) g in (
-        fine scope e k (unique-left (introduced T e) (introduced T f) u) (all-left (low T) b e f v),
-        fine (innerScope (nested b) (columns T e) scope) f w (unique-right (introduced T e) (introduced T f) u) (all-right (low T) b e f v),
-      )
-
-  pub passes-fine : (p : Plan) → passes T p ≡ true → Fine T p
-  passes-fine p h =
-      let r = refusal-none T p (passes-refusal T p h) in
-      fine [] p (r .inViewAll) (once-unique (introduced T p) (r .introducedOnce)) (r .lowAll)
+-- ---- rows
+-- a plan within its bound gives at most 4,096 rows
+pub low-rows : (T : Tables) (p : Plan) → low T p ≡ true → (env : Env) → length (eval T p env) ≤ 4096
+low-rows T p h env = le-trans (row-bound T p env) (leb-true (bound T p) 4096 h)

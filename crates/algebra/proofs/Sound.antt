@@ -1,7 +1,7 @@
 -- Each unnesting keeps the columns and, under every environment, the rows; and its weight is less.
 -- Assumes nothing.
 use Prim.Native.Nat.{ℕ, _+_, _≤_, _<_}
-use mathlib.Core.Bool.{Bool, true, false, not, cond, _&&_, _||_, true≢false, false≢true, and-eq-true-iff}
+use mathlib.Core.Bool.{Bool, true, false, not, cond, _&&_, true≢false, false≢true, and-eq-true-iff}
 use mathlib.Core.Path.{_≡_, refl, ap, ap₂, sym, _∙_, fun-ext}
 use mathlib.Core.List.{List, [], _∷_, _++_, map, append-nil, cons≢nil}
 use mathlib.Core.Option.{Option, none, some}
@@ -10,31 +10,19 @@ use lib.Dec.{eqb, ltb}
 use lib.ListN.{length, length-map}
 use borrow.Author.Tests.{eqb-true, not-true, eq-eqb}
 use Rattle.algebra.specs.Lists.{flip, filter, any, all, flatMap, isEmpty, every, member, minus, same, firsts}
-use Rattle.algebra.specs.Cells.{Comparison, eq, ne, lt, le, gt, ge, Aggregate, count, blank, origin, compares, aggregate}
-use Rattle.algebra.specs.Plans.{Row, Env, Tables, always, columnsOf, numberOf, Test, test, plain, isPlain, names, truth, holds, turned, Unary, select, project, distinct, group, sort, cross, semi, quant, fold, each, pair, Plan, leaf, one, two, columns, bind, measure, gather, matched, quantify, emit, cut, act, joined, eval}
-use Rattle.algebra.specs.Names.{unaryFree, free, closed}
-use Rattle.algebra.specs.Rules.{Top, selected, other, top, Only, only, another, onlyOf, Link, unlinked, link, linkBy, linkOf, isEqual, when, avoids, local, outside, sequenced, toSemi, u1, toPair, u5, counted, bare, removed, u3Conditions, u3, u6Conditions, u6, u7, u8, unnest}
+use Rattle.algebra.specs.Cells.{Comparison, eq, ne, lt, le, gt, ge, Aggregate, count, origin, compares, aggregate}
+use Rattle.algebra.specs.Plans.{Row, Env, Tables, always, columnsOf, numberOf, Test, test, plain, isPlain, names, truth, holds, turned, Unary, select, project, distinct, group, sort, Binary, cross, semi, quant, fold, each, pair, Plan, leaf, one, two, columns, bind, measure, gather, matched, quantify, emit, cut, act, joined, eval}
+use Rattle.algebra.specs.Names.{measured, unaryFree, free, closed}
+use Rattle.algebra.specs.Rules.{Top, selected, other, top, unprojected, Only, only, another, onlyOf, Link, unlinked, link, linkBy, linkOf, isEqual, when, avoids, local, outside, sequenced, toSemi, u1, toPair, u5, counted, bare, removed, u3Conditions, u3, u6Conditions, u6, u7, u8, unnest}
 use Rattle.algebra.specs.Steps.{weight}
 use Rattle.algebra.specs.Demand3.{Same}
 use Rattle.algebra.proofs.Lists.{filter-filter, any-filter, all-any, any-count, filter-length, filter-true, every-true, sameRows-true}
 use Rattle.algebra.proofs.Cells.{compares-turn, count-some, count-none}
 use Rattle.algebra.proofs.Change.{OnSome, on-when}
-use Rattle.algebra.proofs.Free.{Agree, more, bind-same, bind-agree, holds-agree, eval-free}
+use Rattle.algebra.proofs.Free.{Agree, more, bind-same, bind-outside, bind-agree, holds-agree, eval-free}
+use Rattle.algebra.proofs.Between.{Under, under, under-weight, Shown, drop-quant, drop-fold}
 
 -- ---- environments
-pub bind-outside : (cs : List ℕ) (r : Row) (f : Env) (x : ℕ) → member x cs ≡ false → bind cs r f x ≡ f x
-bind-outside [] r f x h = refl
-bind-outside (c ∷ cs) [] f x h =
-    (elim (eqb x c) as (λ b. (b || member x cs) ≡ false → cond b blank (bind cs [] f x) ≡ f x) [
-      | true ↦ λ k. absurd (true≢false k)
-      | false ↦ λ k. bind-outside cs [] f x k
-    ]) h
-bind-outside (c ∷ cs) (v ∷ r) f x h =
-    (elim (eqb x c) as (λ b. (b || member x cs) ≡ false → cond b v (bind cs r f x) ≡ f x) [
-      | true ↦ λ k. absurd (true≢false k)
-      | false ↦ λ k. bind-outside cs r f x k
-    ]) h
-
 -- names apart from the row's columns are not touched by it
 pub apart-agree : (xs cs : List ℕ) (r : Row) (f : Env) → all (λ x. not (member x cs)) xs ≡ true → Agree (bind cs r f) f xs
 apart-agree [] cs r f h = Agree.none
@@ -153,7 +141,8 @@ kept m c l env n d b (single {x = x} {rs = rs} s) =
     ])
 
 module _ (T : Tables) where
-  -- what the plan after a rule has to fulfil, at its Group nodes: this follows from refusals 12 and 14
+  -- What the plans before and after a rule have to fulfil: this follows from refusals 12 and 14. After it, of Group nodes; before it, of
+  -- Some, Every and Fold over a Project.
   abbrev pub UnaryFine : Unary → Plan → Type 0
   UnaryFine (select t) p = Unit {0}
   UnaryFine (project ids) p = Unit {0}
@@ -161,14 +150,22 @@ module _ (T : Tables) where
   UnaryFine (group a n l r c t) p = (eqb n l ≡ false) × (member r (columns T p) ≡ true) × ((env : Env) → length (eval T p env) ≤ 4096)
   UnaryFine (sort d ids) p = Unit {0}
 
+  abbrev pub BinaryFine : Binary → Plan → Type 0
+  BinaryFine cross f = Unit {0}
+  BinaryFine (semi m l r t) f = Unit {0}
+  BinaryFine (quant m t) f = Shown T (names t) (under f)
+  BinaryFine (fold a n t) f = Shown T (measured a ++ names t) (under f)
+  BinaryFine each f = Unit {0}
+  BinaryFine (pair a n l r c t) f = Unit {0}
+
   abbrev pub Fine : Plan → Type 0
   Fine (leaf x) = Unit {0}
   Fine (one u p) = UnaryFine u p × Fine p
-  Fine (two b e f) = Fine e × Fine f
+  Fine (two b e f) = BinaryFine b f × Fine e × Fine f
 
   -- q may be put in the place of p
   pub record Better (p q : Plan) : Type 0 where
-    pub agrees : Fine q → Same T q p
+    pub agrees : Fine p → Fine q → Same T q p
     pub lighter : weight q < weight p
 
   abbrev pub Good : Plan → Option Plan → Type 0
@@ -189,10 +186,10 @@ module _ (T : Tables) where
   closed-eval p f g h = eval-free T p (rw (closed-free p h) Agree.none)
 
   -- ---- U1, U2
-  u1-good : (m : Bool) (t : Test) (e : Plan) {f : Plan} (v : Top f) → Good (two (quant m t) e f) (u1 T m t e v)
+  u1-good : (m : Bool) (t : Test) (e : Plan) {f g : Plan} (u : Under f g) → (Fine (two (quant m t) e f) → Shown T (names t) u) → (v : Top g) → Good (two (quant m t) e f) (u1 T m t e v)
   unfolding eval columns joined emit act weight
-  u1-good m t e (other f) = tt
-  u1-good m t e (selected s g) = go (linkOf (columns T e) (columns T g) s) (link-means (columns T e) (columns T g) s)
+  u1-good m t e u shows (other g) = tt
+  u1-good m t e {f} u shows (selected s g) = go (linkOf (columns T e) (columns T g) s) (link-means (columns T e) (columns T g) s)
     where
       rows : (a b : ℕ) → ((f : Env) → holds s f ≡ compares eq (f a) (f b)) → avoids T g e ≡ true → (env : Env)
           → eval T (two (semi m a b (turned m t)) e g) env ≡ eval T (two (quant m t) e (one (select s) g)) env
@@ -204,21 +201,25 @@ module _ (T : Tables) where
           (sym (eval-free T g (apart-agree (free T g) (columns T e) l env h)))
           ∙ sym (quantify-filter m (λ r. holds t (inside r)) (λ r. holds s (inside r)) (eval T g (bind (columns T e) l env))))))
 
-      light : (t : Test) → cond (isPlain t) 1 2 + (weight e + weight g) < 3 + (weight e + weight g)
-      light t = elim (isPlain t) as (λ b. cond b 1 2 + (weight e + weight g) < 3 + (weight e + weight g)) [ true ↦ omega arith | false ↦ omega arith ]
+      light : (t : Test) → cond (isPlain t) 1 2 + (weight e + weight g) < 3 + (weight e + weight f)
+      light t = rw (under-weight u) (elim (isPlain t) as (λ b. cond b 1 2 + (weight e + weight g) < 3 + (weight e + weight g)) [ true ↦ omega arith | false ↦ omega arith ])
 
-      go : (x : Link) → Means s x → Good (two (quant m t) e (one (select s) g)) (toSemi T m t e g x)
+      go : (x : Link) → Means s x → Good (two (quant m t) e f) (toSemi T m t e g x)
       go unlinked k = tt
       go (link a b c) k = good-when (isEqual c && avoids T g e) _ _ (λ h. let (h₁, h₂) = and-eq-true-iff (isEqual c) (avoids T g e) .0 h in record {
-        agrees = λ _. record { sameColumns = refl; sameRowsOf = rows a b (λ f. k f ∙ ap (λ (z : Comparison). compares z (f a) (f b)) (equal-is c h₁)) h₂ };
+        agrees = λ w _. record {
+          sameColumns = refl;
+          sameRowsOf = λ env. rows a b (λ f. k f ∙ ap (λ (z : Comparison). compares z (f a) (f b)) (equal-is c h₁)) h₂ env ∙ drop-quant T m t e u (shows w) env;
+        };
         lighter = light (turned m t);
       })
 
   -- ---- U5
-  u5-good : (a : Aggregate) (n : ℕ) (t : Test) (e : Plan) {f : Plan} (v : Top f) → Good (two (fold a n t) e f) (u5 T a n t e v)
+  u5-good : (a : Aggregate) (n : ℕ) (t : Test) (e : Plan) {f g : Plan} (u : Under f g) → (Fine (two (fold a n t) e f) → Shown T (measured a ++ names t) u) → (v : Top g)
+      → Good (two (fold a n t) e f) (u5 T a n t e v)
   unfolding eval columns joined emit act weight gather
-  u5-good a n t e (other f) = tt
-  u5-good a n t e (selected s g) = go (linkOf (columns T e) (columns T g) s) (link-means (columns T e) (columns T g) s)
+  u5-good a n t e u shows (other g) = tt
+  u5-good a n t e {f} u shows (selected s g) = go (linkOf (columns T e) (columns T g) s) (link-means (columns T e) (columns T g) s)
     where
       rows : (x y : ℕ) (c : Comparison) → ((f : Env) → holds s f ≡ compares c (f x) (f y)) → avoids T g e ≡ true → (env : Env)
           → eval T (two (pair a n x y c t) e g) env ≡ eval T (two (fold a n t) e (one (select s) g)) env
@@ -230,15 +231,18 @@ module _ (T : Tables) where
           (sym (eval-free T g (apart-agree (free T g) (columns T e) l env h)))
           ∙ sym (filter-filter (λ r. holds t (inside r)) (λ r. holds s (inside r)) (eval T g (bind (columns T e) l env))))))
 
-      go : (x : Link) → Means s x → Good (two (fold a n t) e (one (select s) g)) (toPair T a n t e g x)
+      go : (x : Link) → Means s x → Good (two (fold a n t) e f) (toPair T a n t e g x)
       go unlinked k = tt
-      go (link l r c) k = good-when (avoids T g e) _ _ (λ h. record { agrees = λ _. record { sameColumns = refl; sameRowsOf = rows l r c k h }; lighter = omega arith })
+      go (link l r c) k = good-when (avoids T g e) _ _ (λ h. record {
+        agrees = λ w _. record { sameColumns = refl; sameRowsOf = λ env. rows l r c k h env ∙ drop-fold T a n t e u (shows w) env };
+        lighter = rw (under-weight u) (omega arith);
+      })
 
   -- ---- U8
   u8-good : (e f : Plan) → Good (two each e f) (u8 T e f)
   unfolding eval columns joined emit weight
   u8-good e f = good-when (closed T f && not (isEmpty (eval T f outside))) _ _ (λ h. let (h₁, h₂) = and-eq-true-iff (closed T f) (not (isEmpty (eval T f outside))) .0 h in record {
-    agrees = λ _. record {
+    agrees = λ _ _. record {
       sameColumns = refl;
       sameRowsOf = λ env. ap (λ (k : Row → List Row). flatMap k (eval T e env)) (fun-ext (λ l.
           ap (emit cross (columns T f) l (bind (columns T e) l env)) (closed-eval f env (bind (columns T e) l env) h₁)
@@ -255,7 +259,7 @@ module _ (T : Tables) where
   u7-good : (m : Bool) (l r : ℕ) (t : Test) (e f : Plan) → isPlain t ≡ false → Good (two (semi m l r t) e f) (u7 T m l r t e f)
   unfolding eval columns joined emit act weight
   u7-good m l r t e f n = good-when (local T t f) _ _ (λ h. record {
-    agrees = λ _. record {
+    agrees = λ _ _. record {
       sameColumns = refl;
       sameRowsOf = λ env. ap (λ (k : Row → List Row). flatMap k (eval T e env)) (fun-ext (λ v.
           ap (λ (z : Bool). cond (flip m z) (v ∷ []) [])
@@ -288,7 +292,7 @@ module _ (T : Tables) where
       let (isKey, (closedE, (closedF, (_, (sequent, _))))) = every-true (u6Conditions T (sequenced T) k l r t e f) h in
       let i : k ≡ l = eqb-true k l isKey in
       record {
-        agrees = λ w. record {
+        agrees = λ _ w. record {
           sameColumns = ap (λ (x : ℕ). x ∷ n ∷ []) (sym i);
           sameRowsOf = λ env. ap₂ (λ (x : ℕ) (rs : List Row). flatMap (λ v. emit (pair a n l r c t) (columns T f) v (bind (x ∷ []) v env) (eval T f env)) rs)
               (sym i) (sym (sequence e r f closedE (closed-free f closedF) (w .0 .1) sequent env));
@@ -331,7 +335,7 @@ module _ (T : Tables) where
           let (freeH, namesT) = append-nothing (free T h) (minus (names t) (columns T h)) (sym (s .splitFree) ∙ closed-free f closedF) in
           let ck : columns T e ≡ l ∷ [] = ce ∙ ap (λ (x : ℕ). x ∷ []) (eqb-true k l isKey) in
           record {
-            agrees = λ w. record {
+            agrees = λ _ w. record {
               sameColumns = sym ck;
               sameRowsOf = λ env. u3-rows m c l r e f h t s namesT (w .1 .1 .0) ck env (sequence e r h closedE freeH (w .1 .1 .0 .1) sequent env);
             };
@@ -349,7 +353,7 @@ module _ (T : Tables) where
         | true ↦ λ h. rw (plain-is t h) (u3-good c m l r (onlyOf e) (top f))
         | false ↦ λ h. u7-good m l r t e f h
       ]) refl
-  unnest-good c (two (quant m t) e f) = u1-good m t e (top f)
-  unnest-good c (two (fold a n t) e f) = u5-good a n t e (top f)
+  unnest-good c (two (quant m t) e f) = u1-good m t e (under f) (λ w. w .0) (top (unprojected f))
+  unnest-good c (two (fold a n t) e f) = u5-good a n t e (under f) (λ w. w .0) (top (unprojected f))
   unnest-good c (two each e f) = u8-good e f
   unnest-good c (two (pair a n l r k t) e f) = u6-good a n l r k t (onlyOf e) f

@@ -12,11 +12,12 @@ use lib.ListN.{length}
 use borrow.Author.Tests.{ltb-true, ltb-false, le-ltb, eqb-true, eqb-false}
 use Rattle.algebra.specs.Plans.{Tables, isPlain, Unary, Binary, cross, semi, quant, fold, each, pair, Plan, leaf, one, two, unaryColumns, binaryColumns, columns, act, joined, eval}
 use Rattle.algebra.specs.Places.{size, here, modify, look}
-use Rattle.algebra.specs.Refusals.{passes}
+use Rattle.algebra.specs.Refusals.{refusal, passes}
 use Rattle.algebra.specs.Rules.{top, onlyOf, when, sequenced, u3, u7, ruleOf, unnest, rule, numberAt, fresh}
 use Rattle.algebra.specs.Steps.{binaryWeight, weight, Step, orElse, fits, firstOr, first, follow, accepted, attempt, after, fitted, tried, atPlace, smallest, run}
 use Rattle.algebra.specs.Demand3.{Same, Demand3, Still, Run, done, next}
-use Rattle.algebra.proofs.Refusals.{passes-fine}
+use Rattle.algebra.proofs.Refusals.{passes-refusal}
+use Rattle.algebra.proofs.Fine.{refusal-fine}
 use Rattle.algebra.proofs.Change.{OnSome, look-root, changed}
 use Rattle.algebra.proofs.Sound.{Better, Good, unnest-good}
 
@@ -48,15 +49,15 @@ module _ (T : Tables) where
 
   better-one : (u : Unary) {p q : Plan} → Better T p q → Better T (one u p) (one u q)
   unfolding weight
-  better-one u b = record { agrees = λ w. same-one u (b .agrees (w .1)); lighter = b .lighter }
+  better-one u b = record { agrees = λ v w. same-one u (b .agrees (v .1) (w .1)); lighter = b .lighter }
 
   better-left : (b : Binary) {p q : Plan} (f : Plan) → Better T p q → Better T (two b p f) (two b q f)
   unfolding weight
-  better-left b f k = record { agrees = λ w. same-two b (k .agrees (w .0)) (same-refl f); lighter = omega arith }
+  better-left b f k = record { agrees = λ v w. same-two b (k .agrees (v .1) (w .1)) (same-refl f); lighter = omega arith }
 
   better-right : (b : Binary) (e : Plan) {p q : Plan} → Better T p q → Better T (two b e p) (two b e q)
   unfolding weight
-  better-right b e k = record { agrees = λ w. same-two b (same-refl e) (k .agrees (w .1)); lighter = omega arith }
+  better-right b e k = record { agrees = λ v w. same-two b (same-refl e) (k .agrees (v .2) (w .2)); lighter = omega arith }
 
   rule-good : (c : Option ℕ) (u : ℕ) (p : Plan) → Good T p (rule T (sequenced T) c u p)
   unfolding rule
@@ -69,7 +70,7 @@ module _ (T : Tables) where
 module _ (T : Tables) where
   -- ---- one step
   record Stepped (p q : Plan) : Type 0 where
-    stays : Same T q p
+    stays : refusal T p ≡ 0 → Same T q p
     falls : weight q < weight p
     accepts : passes T q ≡ true
 
@@ -79,7 +80,7 @@ module _ (T : Tables) where
   fits-accepted : (p : Plan) (o : Option Plan) → Good T p o → Fits p (accepted T o)
   fits-accepted p none g = tt
   fits-accepted p (some q) g =
-      (elim (passes T q) as (λ z. passes T q ≡ z → Fits p (when z q)) [ true ↦ λ e. record { stays = g .agrees (passes-fine T q e); falls = g .lighter; accepts = e } | false ↦ λ e. tt ]) refl
+      (elim (passes T q) as (λ z. passes T q ≡ z → Fits p (when z q)) [ true ↦ λ e. record { stays = λ h. g .agrees (refusal-fine T p h) (refusal-fine T q (passes-refusal T q e)); falls = g .lighter; accepts = e } | false ↦ λ e. tt ]) refl
 
   attempt-fits : (s : Step) (p : Plan) → Fits p (attempt T s p)
   unfolding attempt
@@ -88,8 +89,8 @@ module _ (T : Tables) where
   stepped : (s : Step) (p q : Plan) → attempt T s p ≡ some q → Stepped p q
   stepped s p q e = subst (Fits p) e (attempt-fits s p)
 
-  pub attempt-same : (s : Step) (p q : Plan) → attempt T s p ≡ some q → Same T q p
-  attempt-same s p q e = stepped s p q e .stays
+  pub attempt-same : (s : Step) (p q : Plan) → refusal T p ≡ 0 → attempt T s p ≡ some q → Same T q p
+  attempt-same s p q h e = stepped s p q e .stays h
 
   pub attempt-lighter : (s : Step) (p q : Plan) → attempt T s p ≡ some q → weight q < weight p
   attempt-lighter s p q e = stepped s p q e .falls
@@ -97,16 +98,33 @@ module _ (T : Tables) where
   pub attempt-passes : (s : Step) (p q : Plan) → attempt T s p ≡ some q → passes T q ≡ true
   attempt-passes s p q e = stepped s p q e .accepts
 
-  -- ---- demand 3: for every plan and every list of steps
-  pub demand-3 : (ss : List Step) (p : Plan) → Demand3 T ss p
-  unfolding after fitted
-  demand-3 [] p = record { unchanged = same-refl T p; paid = omega arith }
-  demand-3 (s ∷ ss) p = let (u, k) = go (attempt T s p) (attempt-fits s p) (demand-3 ss (orElse p (attempt T s p))) in record { unchanged = u; paid = k }
+  -- ---- demand 3: for every plan that 11 to 14 do not turn back and every list of steps
+  unrefused-after : (p : Plan) (o : Option Plan) → Fits p o → refusal T p ≡ 0 → refusal T (orElse p o) ≡ 0
+  unrefused-after p none f h = h
+  unrefused-after p (some q) f h = passes-refusal T q (f .accepts)
+
+  unchanged-by : (ss : List Step) (p : Plan) → refusal T p ≡ 0 → Same T (after T ss p) p
+  unfolding after
+  unchanged-by [] p h = same-refl T p
+  unchanged-by (s ∷ ss) p h = go (attempt T s p) (attempt-fits s p) (unchanged-by ss (orElse p (attempt T s p)) (unrefused-after p (attempt T s p) (attempt-fits s p) h))
     where
-      go : (o : Option Plan) → Fits p o → Demand3 T ss (orElse p o)
-          → Same T (after T ss (orElse p o)) p × (fits o + fitted T ss (orElse p o) + weight (after T ss (orElse p o)) ≤ weight p)
-      go none f d = (d .unchanged, omega arith)
-      go (some q) f d = (same-trans T (d .unchanged) (f .stays), omega arith)
+      go : (o : Option Plan) → Fits p o → Same T (after T ss (orElse p o)) (orElse p o) → Same T (after T ss (orElse p o)) p
+      go none f d = d
+      go (some q) f d = same-trans T d (f .stays h)
+
+  -- the steps that fit are paid for, from any plan
+  pub paid-by : (ss : List Step) (p : Plan) → fitted T ss p + weight (after T ss p) ≤ weight p
+  unfolding after fitted
+  paid-by [] p = omega arith
+  paid-by (s ∷ ss) p = go (attempt T s p) (attempt-fits s p) (paid-by ss (orElse p (attempt T s p)))
+    where
+      go : (o : Option Plan) → Fits p o → fitted T ss (orElse p o) + weight (after T ss (orElse p o)) ≤ weight (orElse p o)
+          → fits o + fitted T ss (orElse p o) + weight (after T ss (orElse p o)) ≤ weight p
+      go none f d = omega arith
+      go (some q) f d = omega arith
+
+  pub demand-3 : (ss : List Step) (p : Plan) → refusal T p ≡ 0 → Demand3 T ss p
+  demand-3 ss p h = record { unchanged = unchanged-by ss p h; paid = paid-by ss p }
 
 -- ---- the run
 abbrev First : {A : Type 0} → ℕ → ℕ → (ℕ → Option A) → Option A → Type 0
@@ -216,7 +234,7 @@ module _ (T : Tables) where
 
   -- and it has at most as many steps as the plan has weight
   pub run-length : {p last : Plan} {ss : List Step} → Run T p ss last → length ss + weight last ≤ weight p
-  run-length {p} {last} {ss} r = omega (arith, demand-3 T ss p .paid, run-fits r, ap weight (run-last r))
+  run-length {p} {last} {ss} r = omega (arith, paid-by T ss p, run-fits r, ap weight (run-last r))
 
 -- ---- at one node at most one rule fits: the number of a step that fits is read off the plan
 rule-numbered : (T : Tables) (c : Option ℕ) (u : ℕ) (p : Plan) → OnSome (λ q. u ≡ numberAt p 0) (rule T (sequenced T) c u p)

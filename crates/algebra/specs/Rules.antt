@@ -26,6 +26,16 @@ top (one (group a n l r c t) g) = other (one (group a n l r c t) g)
 top (one (sort d ids) g) = other (one (sort d ids) g)
 top (two b e f) = other (two b e f)
 
+-- the plan without its top Project, if it has one: U1, U2 and U5 look for their Select here
+abbrev pub unprojected : Plan → Plan
+unprojected (leaf x) = leaf x
+unprojected (one (select s) g) = one (select s) g
+unprojected (one (project ids) g) = g
+unprojected (one (distinct ids) g) = one (distinct ids) g
+unprojected (one (group a n l r c t) g) = one (group a n l r c t) g
+unprojected (one (sort d ids) g) = one (sort d ids) g
+unprojected (two b e f) = two b e f
+
 -- a Distinct of one column
 pub data Only : Plan → Type 0 where
   only : (k : ℕ) (p : Plan) → Only (one (distinct (k ∷ [])) p)
@@ -160,8 +170,8 @@ unnest T S c (leaf x) = none
 unnest T S c (one u p) = none
 unnest T S c (two cross e f) = none
 unnest T S c (two (semi m l r t) e f) = cond (isPlain t) (u3 T S c m l r (onlyOf e) (top f)) (u7 T m l r t e f)
-unnest T S c (two (quant m t) e f) = u1 T m t e (top f)
-unnest T S c (two (fold a n t) e f) = u5 T a n t e (top f)
+unnest T S c (two (quant m t) e f) = u1 T m t e (top (unprojected f))
+unnest T S c (two (fold a n t) e f) = u5 T a n t e (top (unprojected f))
 unnest T S c (two each e f) = u8 T e f
 unnest T S c (two (pair a n l r k t) e f) = u6 T S a n l r k t (onlyOf e) f
 

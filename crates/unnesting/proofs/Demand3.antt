@@ -19,7 +19,7 @@ use Rattle.reading.specs.TableSet.{readSet, tablesOf}
 use Rattle.reading.specs.Tree.{planOf}
 use Rattle.reading.specs.Encoding.{planBytes}
 use Rattle.reading.specs.Check.{setNumber, orNext, planRefusal, inputRefusal}
-use Rattle.reading.proofs.PlanBytes.{accepted-plans}
+use Rattle.reading.proofs.PlanBytes.{plan-passed, accepted-plans}
 use Rattle.reporting.specs.Report.{reportRows, reportColumns, rowCount, columnCount, codeOf, reportCodes, countAfter, outputAfter, Reported}
 use Rattle.unnesting.specs.Unnest.{bytesAfter, unnestSteps, unnestPlan, stepBytes, writtenSteps, writtenPlan, Unnested}
 use Rattle.unnesting.specs.Demand3.{bytesLeft, stepsIn, OwnSteps, Claim}
@@ -147,7 +147,7 @@ demand-3 set plan e ss =
     let T = tablesOf set in
     let (a, b) = input-parts set plan e in
     let k = kept-after set ss (planOf plan) (kept-given set plan b) in
-    let d = tree-demand-3 T ss (planOf plan) in
+    let d = tree-demand-3 T ss (planOf plan) (plan-passed set plan b .unrefused) in
     let left = bytesLeft set plan ss in
     let cs : reportColumns set left ≡ reportColumns set plan = ap (columns T) (k .reads) ∙ d .unchanged .sameColumns in
     let rs : reportRows set left ≡ reportRows set plan = ap (λ (p : Plan). eval T p outside) (k .reads) ∙ d .unchanged .sameRowsOf outside in

@@ -1,4 +1,4 @@
--- The examples M1 to M9, computed. Assumes nothing.
+-- The examples, computed. Assumes nothing.
 use mathlib.Core.Path.{refl}
 use Rattle.algebra.specs.Cells.{compares, aggregate}
 use Rattle.algebra.specs.Plans.{truth, columns, gather, emit, act, joined, eval}
@@ -17,8 +17,8 @@ use Rattle.reading.specs.Check.{planRefusal, inputRefusal}
 use Rattle.reporting.specs.Report.{reportNumber}
 use Rattle.unnesting.specs.Unnest.{passedThrough, unnestNeed, unnestNumber}
 use Rattle.unnesting.specs.StayNote.{stayNumber}
-use Rattle.unnesting.specs.Examples.{clubSet, movedSet, clubPlan, crossPlan, emptyInner, Examples}
+use Rattle.unnesting.specs.Examples.{clubSet, movedSet, clubPlan, projectedPlan, crossPlan, emptyInner, Examples}
 
 pub examples : Examples
-unfolding compares aggregate truth columns gather emit act joined eval size flatten subtrees modify look unaryFree free closed introduced bound need fields once inView refusal passes ruleOf unnest rule weight attempt after smallest run sequencesOf stays noteAt startsWith allBelow cellsOf cellsAllowed readTable readFrom readSet tableFrom tableRows listEnds fieldsAllowed testOf nodeOf nodeAt nodesAllowed readPlan operatorBy treeAt planAt wholeTree nodeBytes planBytes planRefusal inputRefusal reportNumber passedThrough unnestNeed unnestNumber stayNumber clubSet movedSet clubPlan crossPlan emptyInner
-examples = record { m1 = refl; m2 = refl; m3 = refl; m4 = refl; m5 = refl; m6 = (refl, refl); m7 = (refl, refl); m8 = (refl, refl, refl, (refl, refl), refl); m9 = (refl, refl, refl, refl, refl) }
+unfolding compares aggregate truth columns gather emit act joined eval size flatten subtrees modify look unaryFree free closed introduced bound need fields once inView refusal passes ruleOf unnest rule weight attempt after smallest run sequencesOf stays noteAt startsWith allBelow cellsOf cellsAllowed readTable readFrom readSet tableFrom tableRows listEnds fieldsAllowed testOf nodeOf nodeAt nodesAllowed readPlan operatorBy treeAt planAt wholeTree nodeBytes planBytes planRefusal inputRefusal reportNumber passedThrough unnestNeed unnestNumber stayNumber clubSet movedSet clubPlan projectedPlan crossPlan emptyInner
+examples = record { m1 = refl; m2 = refl; m3 = refl; m4 = refl; m5 = refl; m6 = (refl, refl); m7 = (refl, refl); m8 = (refl, refl, refl, (refl, refl), refl); m9 = (refl, refl, refl, refl, refl); projected = (refl, refl, refl) }

@@ -1,4 +1,5 @@
--- U1, U2 and U5 at a place: how a Select links its child with another tree, and what the rules make of it. Assumes nothing.
+-- U1, U2 and U5 at a place: how a Select, which may stand under a Project, links its child with another tree, and what the rules make of it.
+-- Assumes nothing.
 use Prim.Native.Nat.{ℕ, zero, suc, _+_, _-_, _≤_, _<_}
 use native.Mathlib.Omega.{arith}
 use native.Mathlib.Decide.{ℕ-discrete}
@@ -12,19 +13,20 @@ use borrow.Author.Tests.{ne-eqb}
 use Rattle.algebra.specs.Lists.{if_then_else_, flip, member}
 use Rattle.algebra.specs.Cells.{ne, lt, le, gt, ge, turn}
 use Rattle.algebra.specs.Plans.{Tables, columnsOf, test, turned, Unary, select, project, distinct, group, sort, Binary, quant, fold, semi, pair, Plan, one, two, columns}
-use Rattle.algebra.specs.Places.{unaryNode, binaryNode, size, flatten}
-use Rattle.algebra.specs.Rules.{top, unlinked, link, linkBy, linkOf, isEqual, avoids, toSemi, toPair, u1, u5, Link as KeyLink}
+use Rattle.algebra.specs.Places.{Operator, leafNode, unaryNode, binaryNode, size, flatten}
+use Rattle.algebra.specs.Rules.{top, unprojected, unlinked, link, linkBy, linkOf, isEqual, avoids, toSemi, toPair, u1, u5, Link as KeyLink}
+use Rattle.algebra.proofs.Places.{size-positive}
 use Rattle.reading.specs.Plan.{nodeAt, nodesOf}
-use Rattle.reading.specs.Tree.{comparisonOf, nodeTest, nodeAggregate, operatorBy, operatorOf, operatorAt, planAt, wholeTree}
+use Rattle.reading.specs.Tree.{comparisonOf, nodeTest, nodeList, nodeAggregate, operatorBy, operatorOf, operatorAt, planAt, wholeTree}
 use Rattle.reading.specs.Encoding.{markByte, nodeBytes}
 use Rattle.reading.specs.declared.plan.Node.{Node}
-use Rattle.reading.proofs.Operators.{by-kind}
+use Rattle.reading.proofs.Operators.{by-kind, kind-above}
 use Rattle.reading.proofs.Trees.{plan-case}
 use Rattle.reading.proofs.Ends.{endAt}
 use Rattle.reading.proofs.Places.{flatMap-joined}
 use Rattle.reading.proofs.PlanBytes.{PlanKnown}
 use Rattle.unnesting.specs.Images.{image, plainNode}
-use Rattle.unnesting.specs.Links.{Links, Stand, topLink, withoutSelect}
+use Rattle.unnesting.specs.Links.{Links, Stand, UnprojectedAt, topLink, withoutSelect}
 use Rattle.unnesting.specs.Shapes.{shape, nodeSlice, Makes, Shaped}
 use Rattle.unnesting.specs.declared.change.Change.{Change}
 use Rattle.unnesting.specs.declared.change.Shape.{Shape}
@@ -74,6 +76,54 @@ module _ {first second : List ℕ} {a b : ℕ} {straight : Bool} (s : Stand firs
     links-none q = record {
       decides = λ xs ys f g. ap₂ (λ (z y : Bool). linkBy z y (comparisonOf c) a b) (sym e ∙ s .decides xs ys f g) (sym q ∙ t .decides xs ys f g);
     }
+
+-- ---- the tree without its top Project
+
+abbrev projects : Operator → Bool
+projects (leafNode x) = false
+projects (unaryNode (select t)) = false
+projects (unaryNode (project ids)) = true
+projects (unaryNode (distinct ids)) = false
+projects (unaryNode (group a n l r c t)) = false
+projects (unaryNode (sort d ids)) = false
+projects (binaryNode b) = false
+
+unprojecting : (node : Node) (k : ℕ) → (k ≡ 3 → ⊥) → projects (operatorBy k node) ≡ false
+unfolding operatorBy
+unprojecting node =
+    by-kind (λ k. (k ≡ 3 → ⊥) → projects (operatorBy k node) ≡ false)
+    (λ n. refl) (λ n. refl) (λ n. refl) (λ n. absurd (n refl)) (λ n. refl) (λ n. refl) (λ n. refl) (λ n. refl) (λ n. refl) (λ n. refl) (λ n. refl) (λ n. refl) (λ n. refl) (λ n. refl) (λ n. refl)
+    (λ k h n. ap projects (kind-above node k h))
+
+module _ (plan : List ℕ) (f : ℕ) (h : f < nodesOf plan) (node : Node) (is : node ≡ nodeAt plan f) where
+  pub unprojected-below : wholeTree plan ≡ true → node .kind ≡ 3 → UnprojectedAt plan f (f + 1)
+  unfolding operatorBy
+  unprojected-below whole k =
+      let o : operatorAt plan f ≡ unaryNode (project (nodeList node)) = ap operatorOf (sym is) ∙ ap (λ (k : ℕ). operatorBy k node) k in
+      let t = one-at plan whole f h (project (nodeList node)) o in
+      record {
+        tree = sym (ap unprojected (t .tree));
+        inside = omega (arith, t .last, size-positive (planAt plan (f + 1)));
+        behind = omega arith;
+        end = sym (t .end);
+      }
+
+  pub unprojected-same : (node .kind ≡ 3 → ⊥) → UnprojectedAt plan f f
+  unprojected-same d = record {
+    tree =
+        plan-case plan f (λ op p. projects op ≡ false → p ≡ unprojected p) (λ x q. refl) by (λ b q. refl) h
+        (ap (λ (n : Node). projects (operatorOf n)) (sym is) ∙ unprojecting node (node .kind) d);
+    inside = h;
+    behind = omega arith;
+    end = refl;
+  }
+    where
+      by : (u : Unary) → projects (unaryNode u) ≡ false → one u (planAt plan (f + 1)) ≡ unprojected (one u (planAt plan (f + 1)))
+      by (select t) q = refl
+      by (project ids) q = absurd (true≢false q)
+      by (distinct ids) q = refl
+      by (group g n l r c t) q = refl
+      by (sort d ids) q = refl
 
 -- ---- the link of the tree at a place
 
@@ -150,41 +200,42 @@ join-second plan whole i h f at node is low high = elim (ℕ-discrete (node .kin
   | no k ↦ two-at plan whole i h _ (ap operatorOf (sym is) ∙ quant-kind node (node .kind) low (omega arith)) f at .second
 ]
 
-module _ (T : Tables) (c : Option ℕ) (plan : List ℕ) (known : PlanKnown plan) (whole : wholeTree plan ≡ true) (i : ℕ) (h : i < nodesOf plan) (f : ℕ) (at : f ≡ endAt plan (i + 1)) where
+module _ (T : Tables) (c : Option ℕ) (plan : List ℕ) (known : PlanKnown plan) (whole : wholeTree plan ≡ true) (i : ℕ) (h : i < nodesOf plan) (f : ℕ) (at : f ≡ endAt plan (i + 1))
+    (s : ℕ) (below : UnprojectedAt plan f s) where
   abbrev e : Plan
   e = planAt plan (i + 1)
 
   abbrev g : Plan
-  g = planAt plan (f + 1)
+  g = planAt plan (s + 1)
 
-  -- the link that the second child makes
+  -- the link that the second child, or its Project's child, makes
   abbrev linked : KeyLink
-  linked = topLink T e (top (planAt plan f))
+  linked = topLink T e (top (planAt plan s))
 
   -- the change puts a node before e and g
   module _ (b b′ : Binary) (o : operatorAt plan i ≡ binaryNode b) (l : KeyLink) (z : isLink l ≡ true) (q : linked ≡ l) where
-    made-of : (first : Node) → image first ≡ nodeBytes (binaryNode b′) → shape T c (planAt plan i) ≡ some (two b′ e g) → Makes T c plan i (withoutSelect first f)
+    made-of : (first : Node) → image first ≡ nodeBytes (binaryNode b′) → shape T c (planAt plan i) ≡ some (two b′ e g) → Makes T c plan i (withoutSelect first f s)
     unfolding flatten
-    made-of first m s =
+    made-of first m gives =
         let t = two-at plan whole i h b o f at in
-        let n = select-size T e plan f (t .second) l z q in
+        let n = select-size T e plan s (below .inside) l z q in
         let k : i + 1 + size e ≡ f = t .first in
-        let j : f + 1 + size g ≡ i + size (planAt plan i) = omega (arith, t .end) in
+        let j : s + 1 + size g ≡ i + size (planAt plan i) = omega (arith, t .end, below .end) in
         record {
           made = two b′ e g;
-          is = s;
+          is = gives;
           inside = record {
             place = h;
             kept = omega arith;
             end = omega (arith, t .second);
-            rest = omega (arith, t .second);
+            rest = omega (arith, below .inside);
             few = omega arith;
-            count = omega (arith, t .second, known .most);
+            count = omega (arith, t .second, below .behind, known .most);
           };
           before = omega arith;
           bytes =
               ap₂ _++_ (sym m) (flatMap-joined nodeBytes (flatten e) (flatten g)
-              ∙ ap₂ _++_ (slice-at plan known (i + 1) (omega (arith, t .second)) ∙ ap (nodeSlice plan (i + 1)) k) (slice-at plan known (f + 1) (omega (arith, t .last)) ∙ ap (nodeSlice plan (f + 1)) j));
+              ∙ ap₂ _++_ (slice-at plan known (i + 1) (omega (arith, t .second)) ∙ ap (nodeSlice plan (i + 1)) k) (slice-at plan known (s + 1) (omega (arith, t .last, t .end)) ∙ ap (nodeSlice plan (s + 1)) j));
         }
 
   module _ (node : Node) (is : node ≡ nodeAt plan i) (low : 8 ≤ node .kind) (high : node .kind ≤ 10) where
@@ -201,7 +252,8 @@ module _ (T : Tables) (c : Option ℕ) (plan : List ℕ) (known : PlanKnown plan
       pair-shape l q =
           let t = two-at plan whole i h _ folds f at in
           ap (shape T c) (t .tree)
-          ∙ plan-case plan f (λ op p. topLink T e (top p) ≡ l → u5 T (nodeAggregate node) (node .id) (nodeTest node) e (top p) ≡ to l) (λ x. ap to) by (λ b. ap to) (t .second) q
+          ∙ ap (λ (p : Plan). u5 T (nodeAggregate node) (node .id) (nodeTest node) e (top p)) (sym (below .tree))
+          ∙ plan-case plan s (λ op p. topLink T e (top p) ≡ l → u5 T (nodeAggregate node) (node .id) (nodeTest node) e (top p) ≡ to l) (λ x. ap to) by (λ b. ap to) (below .inside) q
         where
           to : KeyLink → Option Plan
           to = toPair T (nodeAggregate node) (node .id) (nodeTest node) e g
@@ -214,10 +266,10 @@ module _ (T : Tables) (c : Option ℕ) (plan : List ℕ) (known : PlanKnown plan
           by (sort d ids) = ap to
 
       pub pair-made : (l r d : ℕ) → linked ≡ link l r (comparisonOf d) → leb d 5 ≡ true → avoids T g e ≡ true
-          → Makes T c plan i (withoutSelect (plainNode 12 (node .arg) (node .id) l r d (node .column) (node .negated) (node .test)) f)
-      pair-made l r d q s a =
+          → Makes T c plan i (withoutSelect (plainNode 12 (node .arg) (node .id) l r d (node .column) (node .negated) (node .test)) f s)
+      pair-made l r d q low-d a =
           made-of (fold (nodeAggregate node) (node .id) (nodeTest node)) (pair (nodeAggregate node) (node .id) l r (comparisonOf d) (nodeTest node)) folds (link l r (comparisonOf d)) refl q _
-          (pair-image (node .negated) (node .test) (allowed .tested) (node .arg) (node .column) (allowed .aggregated (inl k)) (allowed .measured) (allowed .counted) d s (node .id) l r)
+          (pair-image (node .negated) (node .test) (allowed .tested) (node .arg) (node .column) (allowed .aggregated (inl k)) (allowed .measured) (allowed .counted) d low-d (node .id) l r)
           (pair-shape (link l r (comparisonOf d)) q ∙ rw a)
 
     -- a Some or an Every
@@ -233,7 +285,8 @@ module _ (T : Tables) (c : Option ℕ) (plan : List ℕ) (known : PlanKnown plan
       semi-shape l q =
           let t = two-at plan whole i h _ quantifies f at in
           ap (shape T c) (t .tree)
-          ∙ plan-case plan f (λ op p. topLink T e (top p) ≡ l → u1 T (eqb (node .kind) 9) (nodeTest node) e (top p) ≡ to l) (λ x. ap to) by (λ b. ap to) (t .second) q
+          ∙ ap (λ (p : Plan). u1 T (eqb (node .kind) 9) (nodeTest node) e (top p)) (sym (below .tree))
+          ∙ plan-case plan s (λ op p. topLink T e (top p) ≡ l → u1 T (eqb (node .kind) 9) (nodeTest node) e (top p) ≡ to l) (λ x. ap to) by (λ b. ap to) (below .inside) q
         where
           to : KeyLink → Option Plan
           to = toSemi T (eqb (node .kind) 9) (nodeTest node) e g
@@ -246,14 +299,14 @@ module _ (T : Tables) (c : Option ℕ) (plan : List ℕ) (known : PlanKnown plan
           by (sort d ids) = ap to
 
       pub semi-made : (l r d : ℕ) → linked ≡ link l r (comparisonOf d) → d ≡ 0 → avoids T g e ≡ true
-          → Makes T c plan i (withoutSelect (plainNode (node .kind - 2) 0 0 l r 0 0 (flip (eqb (node .kind) 9) (node .negated)) (node .test)) f)
-      semi-made l r d q s a =
+          → Makes T c plan i (withoutSelect (plainNode (node .kind - 2) 0 0 l r 0 0 (flip (eqb (node .kind) 9) (node .negated)) (node .test)) f s)
+      semi-made l r d q zero-d a =
           made-of (quant (eqb (node .kind) 9) (nodeTest node)) (semi (eqb (node .kind) 9) l r (turned (eqb (node .kind) 9) (nodeTest node))) quantifies (link l r (comparisonOf d)) refl q _
           (rw (semi-kind node (node .kind) low nine) (keyed-image (flip (eqb (node .kind) 9) (node .negated)) (node .test) (allowed .tested) (eqb (node .kind) 9) l r))
-          (semi-shape (link l r (comparisonOf d)) q ∙ rw (s, a))
+          (semi-shape (link l r (comparisonOf d)) q ∙ rw (zero-d, a))
 
       pub semi-unequal : (l r d : ℕ) → linked ≡ link l r (comparisonOf d) → (d ≡ 0 → ⊥) → shape T c (planAt plan i) ≡ none
-      semi-unequal l r d q s = semi-shape (link l r (comparisonOf d)) q ∙ rw (unequal d s)
+      semi-unequal l r d q more-d = semi-shape (link l r (comparisonOf d)) q ∙ rw (unequal d more-d)
 
     pub join-unlinked : linked ≡ unlinked → shape T c (planAt plan i) ≡ none
     join-unlinked q = elim (ℕ-discrete (node .kind) 10) [ yes k ↦ pair-shape k unlinked q | no k ↦ semi-shape k unlinked q ]

@@ -13,11 +13,12 @@ use Rattle.algebra.specs.Plans.{Tables, always, columnsOf, numberOf, Test, test
 use Rattle.algebra.specs.Places.{flatten, modify}
 use Rattle.algebra.specs.Names.{closed, introduced}
 use Rattle.algebra.specs.Refusals.{byte, testFields, aggregateFields, unaryFields, binaryFields, fields}
-use Rattle.algebra.specs.Rules.{Top, selected, other, top, Only, only, another, onlyOf, Link, unlinked, link, linkBy, linkOf, isEqual, when, avoids, local, outside, sequenced, Sequence, toSemi, u1, toPair, u5, bare, removed, u3Conditions, u3, u6Conditions, u6, u7, ruleOf, unnest, rule, lacking, fresh}
+use Rattle.algebra.specs.Rules.{Top, selected, other, top, unprojected, Only, only, another, onlyOf, Link, unlinked, link, linkBy, linkOf, isEqual, when, avoids, local, outside, sequenced, Sequence, toSemi, u1, toPair, u5, bare, removed, u3Conditions, u3, u6Conditions, u6, u7, ruleOf, unnest, rule, lacking, fresh}
 use Rattle.algebra.specs.StayNotes.{comparing, unsequenced, stays}
 use Rattle.algebra.proofs.Lists.{all-append, every-true}
 use Rattle.algebra.proofs.Places.{Splice, modify-splice}
 use Rattle.algebra.proofs.Change.{OnSome, on-when, on-some}
+use Rattle.algebra.proofs.Between.{Under, listed, itself, under}
 use Rattle.reading.proofs.Places.{all-joined}
 use Rattle.unnesting.specs.Shapes.{anySequence, shape, ready}
 
@@ -130,6 +131,10 @@ turned-fields m (test n f) h = h
 when-written : (b : Bool) (q : Plan) → Written q → OnSome Written (when b q)
 when-written b q h = on-when Written b q (λ i. h)
 
+under-written : {f g : Plan} → Under f g → Written f → Written g
+under-written (listed ids g) y = written-one (project ids) g y .1
+under-written (itself f) y = y
+
 -- the keys of a link are a test's columns
 abbrev LinkFields : Link → Type 0
 LinkFields unlinked = Unit {0}
@@ -211,8 +216,8 @@ module _ (T : Tables) where
         | true ↦ u3-written anySequence c m l r (onlyOf e) (top f) b (w .0) (w .1 .0) y
         | false ↦ u7-written m l r t e f k x y
       ]
-  shape-written c b (two (quant m t) e f) h = let (k, x, y) = written-two (quant m t) e f h in u1-written m t e (top f) k x y
-  shape-written c b (two (fold a n t) e f) h = let (k, x, y) = written-two (fold a n t) e f h in u5-written a n t e (top f) k x y
+  shape-written c b (two (quant m t) e f) h = let (k, x, y) = written-two (quant m t) e f h in u1-written m t e (top (unprojected f)) k x (under-written (under f) y)
+  shape-written c b (two (fold a n t) e f) h = let (k, x, y) = written-two (fold a n t) e f h in u5-written a n t e (top (unprojected f)) k x (under-written (under f) y)
   shape-written c b (two each e f) h = let (k, x, y) = written-two each e f h in when-written (closed T f) _ (two-written cross e f refl x y)
   shape-written c b (two (pair a n l r k t) e f) h =
       let (w, x, y) = written-two (pair a n l r k t) e f h in

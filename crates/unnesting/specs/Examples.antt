@@ -1,5 +1,5 @@
--- The examples M1 to M9 (docs/DEFINITION.md, "The examples"), as rows of one claim. Definitions only; the proof is `examples` of
--- proofs/Examples.antt.
+-- The examples M1 to M9 and the sample club with a Project between (docs/DEFINITION.md, "The examples"), as rows of one claim. Definitions
+-- only; the proof is `examples` of proofs/Examples.antt.
 use Prim.Native.Nat.{ℕ, _+_, _*_}
 use mathlib.Core.Bool.{Bool, true, false}
 use mathlib.Core.Path.{_≡_}
@@ -61,6 +61,17 @@ clubPlan =
     2 ∷ 0 ∷ 0 ∷ 0 ∷ 0 ∷ 0 ∷ 0 ∷ 0 ∷ 0 ∷ 0 ∷ 0 ∷ 0 ∷ 0 ∷ 0 ∷ 0 ∷ 0 ∷ 1 ∷ 0 ∷ 0 ∷ 0 ∷ 1 ∷ 0 ∷ 0 ∷ 0 ∷
     1 ∷ 1 ∷ 1 ∷ 0 ∷ 0 ∷ 0 ∷ 0 ∷ 0 ∷ 0 ∷ 0 ∷ 0 ∷ 0 ∷ 0 ∷ 0 ∷ 0 ∷ 0 ∷ 0 ∷ 0 ∷ 0 ∷ 0 ∷ 0 ∷ 0 ∷ 0 ∷ 0 ∷ []
 
+-- the same with a Project of 2 over the Select
+unfoldable pub projectedPlan : List ℕ
+projectedPlan =
+    82 ∷ 80 ∷ 84 ∷ 1 ∷ 0 ∷ 6 ∷
+    9 ∷ 0 ∷ 0 ∷ 0 ∷ 0 ∷ 0 ∷ 0 ∷ 0 ∷ 0 ∷ 0 ∷ 0 ∷ 0 ∷ 0 ∷ 0 ∷ 0 ∷ 0 ∷ 2 ∷ 4 ∷ 0 ∷ 2 ∷ 30 ∷ 0 ∷ 0 ∷ 0 ∷
+    4 ∷ 0 ∷ 0 ∷ 0 ∷ 0 ∷ 0 ∷ 0 ∷ 0 ∷ 1 ∷ 0 ∷ 0 ∷ 0 ∷ 0 ∷ 0 ∷ 0 ∷ 0 ∷ 0 ∷ 0 ∷ 0 ∷ 0 ∷ 0 ∷ 0 ∷ 0 ∷ 0 ∷
+    1 ∷ 0 ∷ 0 ∷ 0 ∷ 0 ∷ 0 ∷ 0 ∷ 0 ∷ 0 ∷ 0 ∷ 0 ∷ 0 ∷ 0 ∷ 0 ∷ 0 ∷ 0 ∷ 0 ∷ 0 ∷ 0 ∷ 0 ∷ 0 ∷ 0 ∷ 0 ∷ 0 ∷
+    3 ∷ 0 ∷ 0 ∷ 0 ∷ 0 ∷ 0 ∷ 0 ∷ 0 ∷ 1 ∷ 2 ∷ 0 ∷ 0 ∷ 0 ∷ 0 ∷ 0 ∷ 0 ∷ 0 ∷ 0 ∷ 0 ∷ 0 ∷ 0 ∷ 0 ∷ 0 ∷ 0 ∷
+    2 ∷ 0 ∷ 0 ∷ 0 ∷ 0 ∷ 0 ∷ 0 ∷ 0 ∷ 0 ∷ 0 ∷ 0 ∷ 0 ∷ 0 ∷ 0 ∷ 0 ∷ 0 ∷ 1 ∷ 0 ∷ 0 ∷ 0 ∷ 1 ∷ 0 ∷ 0 ∷ 0 ∷
+    1 ∷ 1 ∷ 1 ∷ 0 ∷ 0 ∷ 0 ∷ 0 ∷ 0 ∷ 0 ∷ 0 ∷ 0 ∷ 0 ∷ 0 ∷ 0 ∷ 0 ∷ 0 ∷ 0 ∷ 0 ∷ 0 ∷ 0 ∷ 0 ∷ 0 ∷ 0 ∷ 0 ∷ []
+
 -- ---- other inputs
 
 -- a table of one column and so many rows, below 256: each cell the number 0
@@ -112,3 +123,5 @@ pub record Examples : Type 0 where
       × (noteDue movedSet (writtenPlan movedSet clubPlan) 0 ≡ some (record { first = single (7 ∷ 9 ∷ 4 ∷ []); second = single (9 ∷ 7 ∷ 4 ∷ []) }))
       × (stayAnswer movedSet (writtenPlan movedSet clubPlan) 0 8192 ≡ Position 0)
       × (noteDue movedSet (bytesLeft movedSet clubPlan (record { number = 2; place = 0 } ∷ [])) 0 ≡ none)
+  -- The sample club with a Project between: accepted, and the steps and the plan left are the same.
+  pub projected : (inputRefusal clubSet projectedPlan ≡ 0) × (writtenSteps clubSet projectedPlan ≡ writtenSteps clubSet clubPlan) × (writtenPlan clubSet projectedPlan ≡ writtenPlan clubSet clubPlan)

@@ -11,7 +11,7 @@ use Rattle.algebra.specs.Lists.{if_then_else_, isEmpty, flatMap}
 use Rattle.algebra.specs.Plans.{Tables, isPlain, cross, semi, quant, fold, each, pair, Plan, leaf, one, two, eval}
 use Rattle.algebra.specs.Places.{Operator, leafNode, unaryNode, binaryNode, size, flatten}
 use Rattle.algebra.specs.Names.{closed}
-use Rattle.algebra.specs.Rules.{outside, sequenced, Sequence, top, bare, onlyOf, when, u1, u3, u5, u6, u7}
+use Rattle.algebra.specs.Rules.{outside, sequenced, Sequence, top, unprojected, bare, onlyOf, when, u1, u3, u5, u6, u7}
 use Rattle.reading.specs.Plan.{nodesOf}
 use Rattle.reading.specs.Tree.{planAt}
 use Rattle.reading.specs.Encoding.{nodeBytes}
@@ -31,8 +31,8 @@ shape T c (leaf x) = none
 shape T c (one u p) = none
 shape T c (two cross e f) = none
 shape T c (two (semi m l r t) e f) = cond (isPlain t) (u3 T anySequence c m l r (onlyOf e) (top f)) (u7 T m l r t e f)
-shape T c (two (quant m t) e f) = u1 T m t e (top f)
-shape T c (two (fold a n t) e f) = u5 T a n t e (top f)
+shape T c (two (quant m t) e f) = u1 T m t e (top (unprojected f))
+shape T c (two (fold a n t) e f) = u5 T a n t e (top (unprojected f))
 shape T c (two each e f) = when (closed T f) (two cross e f)
 shape T c (two (pair a n l r k t) e f) = u6 T anySequence a n l r k t (onlyOf e) f
 

@@ -1,5 +1,5 @@
 // U1, U2 and U5: Some and Every become Semi and Anti, and Fold becomes Pair, where the inner plan is a Select of a comparison that links its
-// rows with the left row.
+// rows with the left row, or a Project over it.
 ghost use mathlib.Core.Path.{_≡_};
 ghost use mathlib.Core.Bool.{true, false};
 ghost use Prim.Native.Nat.{_-_, _≤_, _<_};
@@ -11,9 +11,9 @@ ghost use Rattle.algebra.specs.Rules.{fresh, top};
 ghost use Rattle.reading.specs.Check.{inputRefusal};
 ghost use Rattle.reading.specs.Plan.{nodeAt, nodesOf};
 ghost use Rattle.reading.specs.TableSet.{tablesOf};
-ghost use Rattle.reading.specs.Tree.{comparisonOf, formOf, planAt, planOf};
+ghost use Rattle.reading.specs.Tree.{comparisonOf, formOf, planAt, planOf, wholeTree};
 ghost use Rattle.unnesting.specs.Images.{plainNode, testComparison};
-ghost use Rattle.unnesting.specs.Links.{Links, Stand, keyLink, linkComparison, topLink, withoutSelect};
+ghost use Rattle.unnesting.specs.Links.{Links, Stand, UnprojectedAt, keyLink, linkComparison, topLink, withoutSelect};
 ghost use Rattle.unnesting.specs.Shapes.{Shaped};
 use crate::change::Change;
 use crate::change::Shape;
@@ -108,6 +108,16 @@ fn link_of(first: [u8; 256], second: [u8; 256], negated: bool, test: Test) -> Li
     }
 }
 
+// The place of the tree at place f without its top Project, if it has one.
+fn unprojected_at(plan: &[u8], f: usize) -> usize
+    requires { ⌜ (wholeTree (now plan) ≡ true) × (f < nodesOf (now plan)) ⌝ }
+    ensures { λ r. ⌜ UnprojectedAt (now (plan .entry)) f r ⌝ }
+{
+    let node = node_at(plan, f);
+    let kind = node.kind;
+    if kind == 3 { f + 1 } else { f }
+}
+
 // How the tree at place f, where it is a Select, links its child with the tree at place e.
 fn link_at(set: &[u8], plan: &[u8], e: usize, f: usize) -> Link
     requires { ⌜ inputRefusal (now set) (now plan) ≡ 0 ⌝ }
@@ -163,10 +173,10 @@ fn pair_node(node: Node, left: u8, right: u8, comparison: u8) -> Node
     )
 }
 
-// The answer that puts a node in the place of another, and takes away the Select at place f.
-fn without_select(node: Node, f: usize) -> Shape
-    requires { ⌜ f < 64 ⌝ }
-    ensures { λ r. ⌜ (r .fits ≡ true) × (r .change ≡ withoutSelect node f) ⌝ }
+// The answer that puts a node in the place of another, and takes away the nodes from place f up to the Select at place s.
+fn without_select(node: Node, f: usize, s: usize) -> Shape
+    requires { ⌜ s < 64 ⌝ }
+    ensures { λ r. ⌜ (r .fits ≡ true) × (r .change ≡ withoutSelect node f s) ⌝ }
 {
     Shape {
         fits: true,
@@ -176,12 +186,13 @@ fn without_select(node: Node, f: usize) -> Shape
             more: 0,
             second: node,
             third: node,
-            from: f + 1,
+            from: s + 1,
         },
     }
 }
 
-// U1, U2 and U5 at place i, whose node is a Some, an Every or a Fold: f is the second child's place. U1 and U2 ask that the comparison is =.
+// U1, U2 and U5 at place i, whose node is a Some, an Every or a Fold: f is the second child's place, s that of its Select, which may stand
+// under a Project. U1 and U2 ask that the comparison is =.
 pub(crate) fn join_shape(set: &[u8], plan: &[u8], i: usize, node: Node) -> Shape
     requires { ⌜ inputRefusal (now set) (now plan) ≡ 0 ⌝ }
     requires { ⌜ (i < nodesOf (now plan)) × (node ≡ nodeAt (now plan) i) ⌝ }
@@ -189,7 +200,8 @@ pub(crate) fn join_shape(set: &[u8], plan: &[u8], i: usize, node: Node) -> Shape
     ensures { λ r. ⌜ Shaped (tablesOf (now (set .entry))) (fresh (tablesOf (now (set .entry))) (planOf (now (plan .entry)))) (now (plan .entry)) i r ⌝ }
 {
     let f = tree_end(plan, i + 1);
-    let link = link_at(set, plan, i + 1, f);
+    let s = unprojected_at(plan, f);
+    let link = link_at(set, plan, i + 1, s);
     match link {
         Link::None => no_shape(node),
         Link::Keys {
@@ -197,17 +209,17 @@ pub(crate) fn join_shape(set: &[u8], plan: &[u8], i: usize, node: Node) -> Shape
             right,
             comparison,
         } => {
-            if !avoids_at(set, plan, f + 1, i + 1) {
+            if !avoids_at(set, plan, s + 1, i + 1) {
                 return no_shape(node);
             }
             let kind = node.kind;
             if kind == 10 {
-                return without_select(pair_node(node, left, right, comparison), f);
+                return without_select(pair_node(node, left, right, comparison), f, s);
             }
             if comparison != 0 {
                 return no_shape(node);
             }
-            without_select(semi_node(node, left, right), f)
+            without_select(semi_node(node, left, right), f, s)
         }
     }
 }

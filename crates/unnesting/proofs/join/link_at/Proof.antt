@@ -17,31 +17,31 @@ use Rattle.unnesting.proofs.join.link_of.Reads as link-of-reads
 passed : (c : tie.Start) → PlanPassed (c .args .set .now) (c .args .plan .now)
 passed c = plan-passed _ _ (input-parts _ _ (c .pre .0) .1)
 
--- src/join.rt:117:9
+-- src/join.rt:128:9
 node-at-requires : tie.Need-node-at-requires
 node-at-requires c κs = search needs
 
--- src/join.rt:120:9
+-- src/join.rt:131:9
 returns : tie.Need-returns
 returns c = (link-other _ _ _ _ (c .before .before .before .before .pre .1) _ (c .before .node-at .ensures) (c .if1 .taken), refl)
 
--- src/join.rt:123:9
+-- src/join.rt:134:9
 add-columns-requires : tie.Need-add-columns-requires
 add-columns-requires c κs = search needs
 
--- src/join.rt:124:47
+-- src/join.rt:135:47
 add-add-columns : tie.Need-add-add-columns
 add-add-columns c = omega (arith, passed (c .before .before .before .before .before) .known .most, c .before .before .before .before .before .pre .1)
 
--- src/join.rt:124:9
+-- src/join.rt:135:9
 add-columns-requires-2 : tie.Need-add-columns-requires-2
 add-columns-requires-2 c κs = search needs
 
--- src/join.rt:126:5
+-- src/join.rt:137:5
 link-of-requires : tie.Need-link-of-requires
 link-of-requires c κs = search needs
 
--- src/join.rt:111:1
+-- src/join.rt:122:1
 returns-2 : tie.Need-returns-2
 returns-2 c =
     let p = passed (c .before .before .before .before .before .before .before) in
