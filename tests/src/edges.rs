@@ -11,13 +11,22 @@ use crate::tables::Table;
 pub fn club() -> Input {
     let players = one_column(&[7, 9, 7, 4]);
     let cards = table(&[&[7, 36], &[9, BLANK], &[4, 31], &[7, 33]]);
-    Input { tables: vec![players, cards], plan: club_plan() }
+    Input { tables: vec![players, cards], plan: every_card_over_30(cards_of_player()) }
 }
 
-/// The plan of the paper's listing.
-fn club_plan() -> Plan {
-    let inner = select(columns_test(0, Equal, 1), scan(1, 1));
+/// The paper's listing with a Project of column 2 between the Every and its Select.
+pub fn club_with_project() -> Input {
+    Input { plan: every_card_over_30(project(&[2], cards_of_player())), ..club() }
+}
+
+/// The Every of the paper's listing with this inner plan.
+fn every_card_over_30(inner: Plan) -> Plan {
     every(number_test(2, Greater, 30), distinct(&[0], scan(0, 0)), inner)
+}
+
+/// The inner plan of the paper's listing.
+fn cards_of_player() -> Plan {
+    select(columns_test(0, Equal, 1), scan(1, 1))
 }
 
 /// Cells of each sort: numbers at the ends of the range and around 0, blank, off scale.
@@ -98,6 +107,10 @@ pub fn edges() -> Vec<(&'static str, Input)> {
     all.extend(comparisons_of_cards());
     all.extend(lists_with_equal_rows());
     all.extend(sequences_with_equal_rows());
+    all.extend(projects_between());
+    all.extend(projects_between_and_more());
+    all.extend(no_fit_through_a_project());
+    all.extend(projects_of_other_rules());
     all
 }
 
@@ -281,6 +294,141 @@ fn sequences_with_equal_rows() -> Vec<(&'static str, Input)> {
         (name, Input { tables: vec![scores_and_players(), in_reverse.clone(), as_they_came.clone()], plan })
     })
     .to_vec()
+}
+
+/// Tables for plans with something between a nested step and its Select: players; cards with their numbers; the players with a card over
+/// 30, in the order of these cards; and a wide table with a row for each player.
+fn players_and_cards() -> Vec<Table> {
+    let cards = table(&[&[7, 36, 1], &[9, BLANK, 2], &[4, 31, 3], &[7, 33, 4], &[BLANK, 40, 5], &[4, OFF_SCALE, 6]]);
+    let wide = [7, 9, 4].map(|player| (0..16).map(|column| player + column).collect()).to_vec();
+    vec![one_column(&[7, 9, 7, 4, BLANK]), cards, one_column(&[7, 4, 7, BLANK]), Table { columns: 16, rows: wide }]
+}
+
+/// Edges over these tables.
+fn of_players_and_cards<const COUNT: usize>(plans: [(&'static str, Plan); COUNT]) -> Vec<(&'static str, Input)> {
+    plans.map(|(name, plan)| (name, Input { tables: players_and_cards(), plan })).to_vec()
+}
+
+/// The players, each once: column 0.
+fn each_player() -> Plan {
+    distinct(&[0], scan(0, 0))
+}
+
+/// A Select by this test of the cards: a player under 1, a score under 2, a number under 3.
+fn cards_by(test: Test) -> Plan {
+    select(test, scan(1, 1))
+}
+
+/// Some with a card over 32.
+fn one_over_32(inner: Plan) -> Plan {
+    some(number_test(2, Greater, 32), each_player(), inner)
+}
+
+/// Every with cards over 32 alone.
+fn all_over_32(inner: Plan) -> Plan {
+    every(number_test(2, Greater, 32), each_player(), inner)
+}
+
+/// A Fold of the sum of the scores under 50.
+fn sum_under_50(inner: Plan) -> Plan {
+    fold(Aggregate::Sum(2), 9, number_test(2, Less, 50), each_player(), inner)
+}
+
+/// One Project between a nested step and its Select: U1, U2 and U5 fit, whether or not it lists the key.
+fn projects_between() -> Vec<(&'static str, Input)> {
+    let same = || cards_by(columns_test(0, Equal, 1));
+    let same_turned = || cards_by(columns_test(1, Equal, 0));
+    let sum = |list: &[u8], test| sum_under_50(project(list, cards_by(test)));
+    let wide = select(columns_test(0, Equal, 10), scan(3, 10));
+    let listed = project(&[11, 25, 12, 24, 13, 23, 14], wide);
+    let mut all = of_players_and_cards([
+        ("Some over a Project with the key", one_over_32(project(&[1, 2], same()))),
+        ("Some over a Project without the key, e's column right", one_over_32(project(&[3, 2], same_turned()))),
+        ("Every over a Project with the key, e's column right", all_over_32(project(&[3, 2, 1], same_turned()))),
+        ("Every over a Project without the key", all_over_32(project(&[2], same()))),
+        ("a Fold by = over a Project with the key", sum(&[2, 1], columns_test(0, Equal, 1))),
+        ("a Fold by < over a Project with the key", sum(&[1, 2], columns_test(0, Less, 1))),
+        ("a Fold by < over a Project with the key, e's column right", sum(&[1, 2], columns_test(1, Less, 0))),
+        ("a Fold by ≥ over a Project without the key", sum(&[2], columns_test(0, AtLeast, 1))),
+        ("a Fold by ≥ over a Project without the key, e's column right", sum(&[2], columns_test(1, AtLeast, 0))),
+        ("a Fold by ≠ over a Project without the key", sum(&[2, 3], columns_test(1, NotEqual, 0))),
+        ("Some over a Project of seven columns out of 16", some(number_test(25, Less, 24), each_player(), listed)),
+    ]);
+    all.push(("the listing with a Project between", club_with_project()));
+    all
+}
+
+/// One Project between a nested step and its Select, in plans with more above it or below that decides steps too.
+fn projects_between_and_more() -> Vec<(&'static str, Input)> {
+    let same = |g| select(columns_test(0, Equal, 1), g);
+    let outer = some(ALWAYS, scan(0, 0), project(&[2], same(each(scan(1, 1), scan(2, 5)))));
+    let inmost = project(&[21], select(columns_test(10, Equal, 20), scan(1, 20)));
+    let inner = select(columns_test(10, Equal, 0), some(number_test(21, Greater, 32), scan(1, 10), inmost));
+    let two_deep = every(number_test(11, Greater, 32), each_player(), project(&[11], inner));
+    let outside = same(select(columns_test(9, Less, 2), scan(1, 1)));
+    let further_out = each(scan(2, 9), some(columns_test(9, NotEqual, 3), scan(0, 0), project(&[3], outside)));
+    let mut full = all_over_32(project(&[2], same(scan(1, 1))));
+    while full.size() < 64 {
+        full = select(ALWAYS, full);
+    }
+    of_players_and_cards([
+        ("a Project over a Select over a Project", one_over_32(project(&[2], same(project(&[2, 1], scan(1, 1)))))),
+        (
+            "a Project over a Select over a Select",
+            all_over_32(project(&[2], same(select(number_test(3, Less, 6), scan(1, 1))))),
+        ),
+        ("a Some over a Project, and an Each inside that fits", outer),
+        ("Projects between two deep", two_deep),
+        ("a Project between, and columns further out", further_out),
+        ("64 nodes with a Project between", full),
+    ])
+}
+
+/// Something else than one Project between a nested step and its Select, or another Select below the Project: no rule fits.
+fn no_fit_through_a_project() -> Vec<(&'static str, Input)> {
+    let same = || cards_by(columns_test(0, Equal, 1));
+    let below = |test| project(&[1, 2], cards_by(test));
+    let naming = select(columns_test(0, Equal, 1), cards_by(number_test(0, Less, 9)));
+    let further_out = each(scan(2, 8), one_over_32(below(columns_test(8, Equal, 1))));
+    of_players_and_cards([
+        ("Some over two Projects", one_over_32(project(&[2], project(&[2, 1], same())))),
+        ("a Fold over two Projects", sum_under_50(project(&[1, 2], project(&[2, 1], same())))),
+        ("Some over a Distinct", one_over_32(distinct(&[1, 2], same()))),
+        ("a Fold over a Distinct", sum_under_50(distinct(&[2], same()))),
+        ("Every over an upward Sort", all_over_32(sort(false, &[2], same()))),
+        ("a Fold over a downward Sort", sum_under_50(sort(true, &[2, 1], same()))),
+        ("Every over a Project over a Sort", all_over_32(project(&[2], sort(false, &[2], same())))),
+        ("Some over a Project over a Distinct", one_over_32(project(&[2], distinct(&[2, 1], same())))),
+        ("Some over a Project over a Select above the linked one", one_over_32(project(&[2], select(ALWAYS, same())))),
+        ("Some over a Project of a Scan", one_over_32(project(&[2, 1], scan(1, 1)))),
+        ("Every over a not-marked Select below a Project", all_over_32(below(columns_test(0, Equal, 1).not_turned()))),
+        ("a Fold over a not-marked Select below a Project", sum_under_50(below(columns_test(1, Less, 0).not_turned()))),
+        ("Some over a Select of a number below a Project", one_over_32(below(number_test(1, Equal, 7)))),
+        ("Every over a Select of two columns of g below a Project", all_over_32(below(columns_test(3, Equal, 1)))),
+        ("Some by < over a Project", one_over_32(below(columns_test(0, Less, 1)))),
+        ("Every by ≠ over a Project", all_over_32(below(columns_test(1, NotEqual, 0)))),
+        ("a Fold over a Project, and g names a column of e", sum_under_50(project(&[2], naming))),
+        ("Some over a Project, linked to a row further out", further_out),
+    ])
+}
+
+/// Projects below the nodes of the rules that do not look through one.
+fn projects_of_other_rules() -> Vec<(&'static str, Input)> {
+    let over_30 = number_test(2, Greater, 30);
+    // The players 7, 4 and blank, and off scale is not over 30.
+    let cut = || project(&[2, 1], cards_by(over_30));
+    let of_table = |table| distinct(&[0], scan(table, 0));
+    let linked = project(&[2], cards_by(columns_test(0, Equal, 1)));
+    of_players_and_cards([
+        ("a Semi with a Select below a Project, all players", semi(0, 1, ALWAYS, of_table(0), cut())),
+        ("a Semi with a Select below a Project, players over 30", semi(0, 1, ALWAYS, of_table(2), cut())),
+        ("an Anti with a Select below a Project, all players", anti(0, 1, ALWAYS, of_table(0), cut())),
+        ("an Anti with a Select below a Project, players over 30", anti(0, 1, ALWAYS, of_table(2), cut())),
+        ("a Semi with a test of a Project", semi(0, 1, number_test(2, Less, 35), scan(0, 0), cut())),
+        ("a Pair with a Select below a Project", pair(Aggregate::Least(2), 9, keys(0, AtMost, 1), of_table(2), cut())),
+        ("an Each with a Project", each(scan(0, 0), cut())),
+        ("an Each with a linked Select below a Project", each(scan(0, 0), linked)),
+    ])
 }
 
 /// A plan with all fifteen kinds.

@@ -151,11 +151,13 @@ fn propose(plan: &Plan, place: usize, tables: &[Table]) -> Option<Proposal> {
     }
 }
 
-/// The condition that U1, U2 and U5 share: the inner plan is a Select, without a not-mark, that
-/// compares a column of e with one of its child g, and g names no column of e. Gives the keys,
-/// e's column on the left, and g.
+/// The condition that U1, U2 and U5 share: the inner plan is a Select, or one Project over a
+/// Select, and the Select, without a not-mark, compares a column of e with one of its child g,
+/// and g names no column of e. Gives the keys, e's column on the left, and g. The Project is
+/// dropped, so it does not matter what it lists.
 fn keyed_inner(left: &Plan, inner: &Plan, tables: &[Table]) -> Option<(Keys, Box<Plan>)> {
-    let Plan::Select { test: Test { form: Form::Columns(comparison, one, other), not: false }, child } = inner else {
+    let select = below_one_project(inner);
+    let Plan::Select { test: Test { form: Form::Columns(comparison, one, other), not: false }, child } = select else {
         return None;
     };
     let left_ids = columns(left, tables);
@@ -169,6 +171,14 @@ fn keyed_inner(left: &Plan, inner: &Plan, tables: &[Table]) -> Option<(Keys, Box
         Some((Keys { left: *other, comparison: comparison.turned(), right: *one }, child.clone()))
     } else {
         None
+    }
+}
+
+/// What stands below a Project, if the plan is one; else the plan itself.
+fn below_one_project(plan: &Plan) -> &Plan {
+    match plan {
+        Plan::Project { child, .. } => child,
+        _ => plan,
     }
 }
 

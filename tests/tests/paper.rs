@@ -4,7 +4,7 @@ use second::build::*;
 use second::calls::*;
 use second::cells::{BLANK, LARGEST, OFF_SCALE};
 use second::check::{columns, need};
-use second::edges::{club, edges, every_kind};
+use second::edges::{club, club_with_project, edges, every_kind};
 use second::generate::Input;
 use second::nodes::{write_plan, HEADER, NODE};
 use second::plan::Comparison::{AtLeast, AtMost, Equal, Greater, Less, NotEqual};
@@ -1244,6 +1244,436 @@ fn k3_steps_of_a_distinct_over_a_downward_sort() {
     let counts = |table| fold(Aggregate::Count, 20, ALWAYS, players(), inner(table));
     stays_after(&tables, &counts(1), &[5, 6], &[[5, 2], [9, 1], [4, 1], [7, 1]], None);
     stays_after(&tables, &counts(2), &[5], &[[5, 1], [9, 1], [4, 2], [7, 1]], Some(1));
+}
+
+/// The sample club's tables, with the number of the card in a third column of table 1.
+fn club_with_numbers() -> [Table; 2] {
+    [one_column(&[7, 9, 7, 4]), numbered(&[&[7, 36], &[9, BLANK], &[4, 31], &[7, 33]])]
+}
+
+/// The players of the sample club.
+fn players() -> Plan {
+    distinct(&[0], scan(0, 0))
+}
+
+/// A Some, an Every and a Fold of the players with this inner plan, which gives column 2.
+fn nested_over(inner: Plan) -> [Plan; 3] {
+    let over_32 = number_test(2, Greater, 32);
+    [
+        some(over_32, players(), inner.clone()),
+        every(over_32, players(), inner.clone()),
+        fold(Aggregate::Sum(2), 9, over_32, players(), inner),
+    ]
+}
+
+/// What U1, U2 and U5 make of the three where they link column 0 by = with column 1 of g.
+fn unnested_over(g: &Plan) -> [Plan; 3] {
+    let over_32 = number_test(2, Greater, 32);
+    let paired = pair(Aggregate::Sum(2), 9, keys(0, Equal, 1), players(), g.clone());
+    [
+        semi(0, 1, over_32, players(), g.clone()),
+        anti(0, 1, over_32.not_turned(), players(), g.clone()),
+        with_test(paired, over_32),
+    ]
+}
+
+/// Checks that U1, U2 and U5 fit, each at place 0, and leave g without what stood above it, and the rows as they were.
+fn all_three_fit(tables: &[Table], inner: &Plan, g: &Plan) {
+    for ((plan, after), number) in nested_over(inner.clone()).iter().zip(unnested_over(g)).zip([1, 2, 5]) {
+        assert_eq!(rule(tables, plan), Some(number), "{inner:?}");
+        assert_eq!(fit(plan, 0, tables), Some((number, after.clone())), "{inner:?}");
+        assert_eq!(rows(tables, plan), rows(tables, &after), "{inner:?}");
+    }
+}
+
+/// Checks that no rule fits anywhere in the three.
+fn none_of_three_fits(tables: &[Table], inner: &Plan) {
+    for plan in nested_over(inner.clone()) {
+        assert_eq!(refusal(tables, &plan), None, "{inner:?}");
+        assert_eq!(unnest_tree(&plan, tables).0, [], "{inner:?}");
+    }
+}
+
+#[test]
+fn k1_the_sample_club_with_a_project_between() {
+    let Input { tables, plan } = club();
+    let inner = || select(columns_test(0, Equal, 1), scan(1, 1));
+    let with = |test, list: &[u8]| every(test, players(), project(list, inner()));
+    let (steps, passed) = unnest_tree(&plan, &tables);
+    for list in [&[2][..], &[1, 2], &[2, 1]] {
+        let given = with(number_test(2, Greater, 30), list);
+        let (own_steps, own_passed) = unnest_tree(&given, &tables);
+        // From the first step on the plans are those of the sample club.
+        assert_eq!((&own_steps, &own_passed[1..]), (&steps, &passed[1..]), "{list:?}");
+        assert_eq!(weight(&given), weight(&plan));
+        unnests_by(&tables, &given, &[2, 7, 4], &[[7], [4]]);
+        let text = "steps 3\nU2 0\nU7 0\nU4 0\nrows 2 columns 1\n7\n4\n";
+        assert_eq!(listing(&write_set(&tables), &write_plan(&given), ROOMY), text);
+    }
+    assert_eq!(club_with_project().plan, with(number_test(2, Greater, 30), &[2]));
+    // A Project of the key alone: then the test cannot name column 2.
+    let of_key = number_test(1, Greater, 5);
+    let (_, passed) = unnest_tree(&every(of_key, players(), inner()), &tables);
+    unnests_by(&tables, &with(of_key, &[1]), &[2, 7, 4], &[[7], [9]]);
+    assert_eq!(unnest_tree(&with(of_key, &[1]), &tables).1[1..], passed[1..]);
+    assert_eq!(refusal(&tables, &with(number_test(2, Greater, 30), &[1])), Some(12));
+    // The cards in another order: U4 does not fit, and the note is that of the sample club.
+    let moved = [tables[0].clone(), table(&[&[9, BLANK], &[7, 36], &[4, 31], &[7, 33]])];
+    stays_after(&moved, &with(number_test(2, Greater, 30), &[2]), &[2, 7], &[[7], [4]], Some(0));
+}
+
+#[test]
+fn k1_some_every_and_fold_fit_whatever_the_project_lists() {
+    let tables = club_with_numbers();
+    for test in [columns_test(0, Equal, 1), columns_test(1, Equal, 0)] {
+        // Without the key; with it; with all columns of g in order, so that the Project cuts nothing off.
+        for list in [&[2][..], &[2, 3], &[1, 2], &[3, 2, 1], &[1, 2, 3]] {
+            all_three_fit(&tables, &project(list, select(test, scan(1, 1))), &scan(1, 1));
+        }
+    }
+    let inner = || project(&[2], select(columns_test(0, Equal, 1), scan(1, 1)));
+    let [of_one, of_all, sums] = nested_over(inner());
+    unnests_by(&tables, &of_one, &[1, 7, 3], &[[7]]);
+    unnests_by(&tables, &of_all, &[2, 7, 4], &[[7]]);
+    unnests_by(&tables, &sums, &[5, 6], &[[7, 69], [9, 0], [4, 0]]);
+    // The plain always test, and a test of e's column alone or with one of f.
+    for test in [ALWAYS, NEVER, number_test(0, Less, 9), columns_test(0, Less, 2)] {
+        assert_eq!(rule(&tables, &some(test, players(), inner())), Some(1));
+        let after = anti(0, 1, test.not_turned(), players(), scan(1, 1));
+        assert_eq!(fit(&every(test, players(), inner()), 0, &tables), Some((2, after)));
+        assert_eq!(rule(&tables, &fold(Aggregate::Count, 9, test, players(), inner())), Some(5));
+    }
+}
+
+#[test]
+fn k1_blank_and_off_scale_keys_under_a_project() {
+    let cards = table(&[&[BLANK, 1], &[7, BLANK], &[OFF_SCALE, 4], &[7, 8], &[BLANK, 16]]);
+    let tables = [one_column(&[7, BLANK, OFF_SCALE, 9]), cards];
+    for list in [&[2][..], &[1, 2]] {
+        let inner = |test| project(list, select(test, scan(1, 1)));
+        let sums = |test| fold(Aggregate::Sum(2), 9, ALWAYS, scan(0, 0), inner(test));
+        let by_key = [[7, BLANK], [BLANK, 0], [OFF_SCALE, 0], [9, 0]];
+        unnests_by(&tables, &sums(columns_test(0, Equal, 1)), &[5], &by_key);
+        let by_others = [[7, 17], [BLANK, BLANK], [OFF_SCALE, 0], [9, BLANK]];
+        unnests_by(&tables, &sums(columns_test(1, NotEqual, 0)), &[5], &by_others);
+        let over_0 = number_test(2, Greater, 0);
+        let of_all = every(over_0, scan(0, 0), inner(columns_test(0, Equal, 1)));
+        unnests_by(&tables, &of_all, &[2, 7], &[[BLANK], [OFF_SCALE], [9]]);
+    }
+}
+
+#[test]
+fn k1_u5_turns_the_comparison_under_a_project() {
+    let tables = club().tables;
+    for (written, turned) in
+        [(Less, Greater), (AtMost, AtLeast), (Greater, Less), (AtLeast, AtMost), (Equal, Equal), (NotEqual, NotEqual)]
+    {
+        for list in [&[2][..], &[1, 2]] {
+            for (test, kept) in [(columns_test(0, written, 1), written), (columns_test(1, written, 0), turned)] {
+                let plan = fold(Aggregate::Sum(2), 5, ALWAYS, scan(0, 0), project(list, select(test, scan(1, 1))));
+                let expected = pair(Aggregate::Sum(2), 5, keys(0, kept, 1), scan(0, 0), scan(1, 1));
+                assert_eq!(fit(&plan, 0, &tables), Some((5, expected.clone())), "{test:?}, {list:?}");
+                assert_eq!(rows(&tables, &plan), rows(&tables, &expected), "{test:?}, {list:?}");
+            }
+        }
+    }
+}
+
+#[test]
+fn k1_only_one_project_may_stand_between() {
+    let tables = club_with_numbers();
+    let linked = || select(columns_test(0, Equal, 1), scan(1, 1));
+    all_three_fit(&tables, &linked(), &scan(1, 1));
+    for inner in [
+        project(&[2], project(&[2], linked())),
+        project(&[2], project(&[1, 2], linked())),
+        project(&[1, 2], project(&[2, 1], linked())),
+        project(&[2], project(&[2, 3], project(&[1, 2, 3], linked()))),
+        distinct(&[2], linked()),
+        distinct(&[1, 2, 3], linked()),
+        sort(false, &[2], linked()),
+        sort(true, &[2], linked()),
+        // Beside a Project, above it or below.
+        project(&[2], distinct(&[1, 2], linked())),
+        distinct(&[2], project(&[1, 2], linked())),
+        project(&[2], sort(false, &[1], linked())),
+        sort(true, &[2], project(&[2], linked())),
+        // A Select above the Project, or between it and the linked one.
+        select(ALWAYS, project(&[2], linked())),
+        project(&[2], select(ALWAYS, linked())),
+        // No Select at all.
+        project(&[2], scan(1, 1)),
+        project(&[2], cross(linked(), Plan::Unit)),
+    ] {
+        none_of_three_fits(&tables, &inner);
+    }
+}
+
+#[test]
+fn k1_the_select_below_the_project_is_the_one_of_paper_01() {
+    let tables = [table(&[&[7, 5], &[9, 6]]), numbered(&[&[7, 36], &[9, BLANK], &[4, 31], &[7, 33]])];
+    let over_32 = number_test(2, Greater, 32);
+    let plans = |inner: &Plan| {
+        [
+            some(over_32, scan(0, 10), inner.clone()),
+            every(over_32, scan(0, 10), inner.clone()),
+            fold(Aggregate::Sum(2), 9, over_32, scan(0, 10), inner.clone()),
+        ]
+    };
+    let rules = |test, g: Plan| plans(&project(&[2], select(test, g))).map(|plan| rule(&tables, &plan));
+    let linked = columns_test(10, Equal, 1);
+    assert_eq!(rules(linked, scan(1, 1)), [Some(1), Some(2), Some(5)]);
+    for test in [
+        linked.not_turned(),
+        columns_test(1, Less, 10).not_turned(),
+        number_test(1, Equal, 7),
+        number_test(10, Equal, 7),
+        ALWAYS,
+        NEVER,
+        // Both columns are g's, or e's.
+        columns_test(1, Equal, 2),
+        columns_test(1, Equal, 1),
+        columns_test(10, Equal, 11),
+        columns_test(10, Equal, 10),
+    ] {
+        assert_eq!(rules(test, scan(1, 1)), [None; 3], "{test:?}");
+    }
+    // Every comparison does for U5, and = alone for U1 and U2.
+    for comparison in [NotEqual, Less, AtMost, Greater, AtLeast] {
+        assert_eq!(rules(columns_test(10, comparison, 1), scan(1, 1)), [None, None, Some(5)], "{comparison:?}");
+        assert_eq!(rules(columns_test(1, comparison, 10), scan(1, 1)), [None, None, Some(5)], "{comparison:?}");
+    }
+    // g names a column of e: the compared one, or another.
+    for id in [10, 11] {
+        assert_eq!(rules(linked, select(number_test(id, Less, 9), scan(1, 1))), [None; 3]);
+        assert_eq!(
+            rules(linked, select(ALWAYS, sort(false, &[1], select(columns_test(id, Less, 2), scan(1, 1))))),
+            [None; 3]
+        );
+    }
+    // A Project cannot list e's column.
+    let of_left_row = project(&[2, 10], select(linked, scan(1, 1)));
+    assert!(plans(&of_left_row).iter().all(|plan| refusal(&tables, plan) == Some(12)));
+}
+
+#[test]
+fn k1_projects_below_the_select_stay() {
+    let tables = club_with_numbers();
+    let linked = |g| select(columns_test(0, Equal, 1), g);
+    // A Select over a Project is no Project over a Select: g is the Project, and it stays.
+    let cut = || project(&[1, 2], scan(1, 1));
+    all_three_fit(&tables, &linked(cut()), &cut());
+    all_three_fit(&tables, &linked(project(&[2, 1], cut())), &project(&[2, 1], cut()));
+    // With a Project above too, the upper one goes and the lower one stays.
+    all_three_fit(&tables, &project(&[2], linked(cut())), &cut());
+    all_three_fit(&tables, &project(&[2, 1], linked(cut())), &cut());
+    // So do the other nodes of g.
+    for g in [
+        distinct(&[1, 2], scan(1, 1)),
+        sort(true, &[2], scan(1, 1)),
+        select(number_test(3, Less, 4), scan(1, 1)),
+        select(columns_test(1, Less, 2), scan(1, 1)),
+        project(&[2, 1], select(number_test(3, Less, 4), scan(1, 1))),
+    ] {
+        all_three_fit(&tables, &project(&[2], linked(g.clone())), &g);
+    }
+}
+
+#[test]
+fn k1_u3_and_u4_take_no_select_off_below_a_project() {
+    let tables = [one_column(&[7, 9, 4]), table(&[&[7, 36], &[9, BLANK], &[4, 31], &[7, 33]]), one_column(&[7, 4])];
+    let over_30 = number_test(2, Greater, 30);
+    let cut = || project(&[1], select(over_30, scan(1, 1)));
+    let e = |table| distinct(&[0], scan(table, 0));
+    // The right keys are those of the Project's rows, 7 and 4, not those of the table below.
+    assert_eq!(note_of(&tables, (&e(0), 0), (&cut(), 1)), Some(1));
+    assert_eq!(note_of(&tables, (&e(2), 0), (&cut(), 1)), None);
+    // Without the Project U3 and U4 take the Select off, and U6 does not.
+    let with = |table, right| semi(0, 1, ALWAYS, e(table), right);
+    assert_eq!(rule(&tables, &with(0, select(over_30, scan(1, 1)))), Some(3));
+    assert_eq!(rule(&tables, &with(2, select(over_30, scan(1, 1)))), None);
+    // The Group is one of the Project, under the plain always test.
+    for (plan, number, comparison) in [(with(2, cut()), 3, Greater), (anti(0, 1, ALWAYS, e(2), cut()), 4, Equal)] {
+        let counted = group(Aggregate::Count, 3, keys(0, Equal, 1), cut());
+        let after = project(&[0], select(number_test(3, comparison, 0), counted));
+        assert_eq!(fit(&plan, 0, &tables), Some((number, after)));
+    }
+}
+
+#[test]
+fn k1_u6_u7_and_u8_keep_a_project() {
+    let tables = [one_column(&[7, 4]), table(&[&[7, 36], &[9, BLANK], &[4, 31], &[7, 33]])];
+    let over_30 = number_test(2, Greater, 30);
+    let cut = || project(&[2, 1], select(over_30, scan(1, 1)));
+    let paired = |right| pair(Aggregate::Sum(2), 9, keys(0, Less, 1), players(), right);
+    let grouped = group(Aggregate::Sum(2), 9, keys(0, Less, 1), cut());
+    assert_eq!(fit(&paired(cut()), 0, &tables), Some((6, grouped)));
+    assert_eq!(stay_position(&paired(project(&[1, 2], scan(1, 1))), 0, &tables), Some(1));
+    // U7 puts its Select above the Project.
+    let even = number_test(2, Less, 34);
+    let moved = |right| semi(0, 1, ALWAYS, players(), select(even, right));
+    assert_eq!(fit(&semi(0, 1, even, players(), cut()), 0, &tables), Some((7, moved(cut()))));
+    let moved = anti(0, 1, ALWAYS, players(), select(even, cut()));
+    assert_eq!(fit(&anti(0, 1, even, players(), cut()), 0, &tables), Some((7, moved)));
+    // A test of a column that the Project cut off is not in view.
+    assert_eq!(refusal(&tables, &semi(0, 1, even, players(), project(&[1], scan(1, 1)))), Some(12));
+    // U8 leaves the Project in the Cross; an Each over a linked Select fits with a Project as little as without.
+    assert_eq!(fit(&each(scan(0, 0), cut()), 0, &tables), Some((8, cross(scan(0, 0), cut()))));
+    let linked = || select(columns_test(0, Equal, 1), scan(1, 1));
+    for inner in [linked(), project(&[2], linked()), project(&[1, 2], linked())] {
+        assert_eq!(rule(&tables, &each(scan(0, 0), inner)), None);
+    }
+    // Neither does a Semi, an Anti or a Pair with a linked Select below a Project in f, nested in the row that it names.
+    let inner = || project(&[1], linked());
+    for plan in [
+        semi(5, 1, ALWAYS, distinct(&[5], scan(0, 5)), inner()),
+        anti(5, 1, ALWAYS, distinct(&[5], scan(0, 5)), inner()),
+        pair(Aggregate::Count, 9, keys(5, Equal, 1), distinct(&[5], scan(0, 5)), inner()),
+    ] {
+        let nested = each(scan(0, 0), plan);
+        assert_eq!(refusal(&tables, &nested), None);
+        assert_eq!(unnest_tree(&nested, &tables).0, []);
+    }
+}
+
+#[test]
+fn k1_a_stay_note_needs_no_look_below_a_project() {
+    let Input { tables, plan } = club_with_project();
+    for place in 0..plan.size() + 2 {
+        assert_eq!(stay_note(&write_set(&tables), &write_plan(&plan), place, ROOMY), Ok(None));
+    }
+}
+
+#[test]
+fn k1_an_outer_place_fits_first() {
+    let tables = club().tables;
+    // An Each that fits inside g.
+    let g = |inner| each(scan(1, 1), inner);
+    let plan = some(ALWAYS, scan(0, 0), project(&[2], select(columns_test(0, Equal, 1), g(scan(0, 5)))));
+    let (steps, passed) = unnest_tree(&plan, &tables);
+    // Before the request there was one step, U8 at 4.
+    assert_eq!(steps, [(1, 0), (8, 2)]);
+    assert_eq!(passed[1], semi(0, 1, ALWAYS, scan(0, 0), g(scan(0, 5))));
+    let last = semi(0, 1, ALWAYS, scan(0, 0), cross(scan(1, 1), scan(0, 5)));
+    assert_eq!(passed[2], last);
+    // The other order, and a step for a place where the node no longer is.
+    let (set, bytes) = (write_set(&tables), write_plan(&plan));
+    assert_eq!(try_steps(&set, &bytes, &[(8, 4), (1, 0)]), Ok(write_plan(&last)));
+    assert_eq!(try_steps(&set, &bytes, &[(1, 0), (8, 4)]), Ok(write_plan(&passed[1])));
+    // The place is the nested node's, not that of its Project or of its Select.
+    for place in [1, 2, 3] {
+        assert_eq!(fit(&plan, place, &tables), None);
+        assert_eq!(try_steps(&set, &bytes, &[(1, place as u8)]), Ok(bytes.clone()));
+    }
+    // Below other nodes, with the places counted through.
+    let below = select(ALWAYS, cross(scan(0, 9), plan));
+    assert_eq!(unnest_tree(&below, &tables).0, [(1, 3), (8, 5)]);
+}
+
+#[test]
+fn k1_two_deep_with_a_project_each() {
+    let tables = club().tables;
+    let over_30 = number_test(21, Greater, 30);
+    let inmost = project(&[21], select(columns_test(10, Equal, 20), scan(1, 20)));
+    let inner = some(over_30, scan(1, 10), inmost);
+    let plan =
+        every(number_test(11, Greater, 32), players(), project(&[11], select(columns_test(10, Equal, 0), inner)));
+    let last = |right| anti(0, 10, ALWAYS, players(), select(number_test(11, Greater, 32).not_turned(), right));
+    let moved = semi(10, 20, ALWAYS, scan(1, 10), select(over_30, scan(1, 20)));
+    let (steps, passed) = unnest_tree(&plan, &tables);
+    assert_eq!(steps, [(2, 0), (7, 0), (1, 4), (7, 4)]);
+    assert_eq!(passed[4], last(moved));
+    for passed in &passed {
+        assert_eq!(rows(&tables, passed), [[7], [9]]);
+    }
+    // The inner one first: the last plan is the same.
+    let (set, bytes) = (write_set(&tables), write_plan(&plan));
+    for steps in [[(1, 5), (7, 5), (2, 0), (7, 0)], [(1, 5), (2, 0), (7, 3), (7, 0)], [(2, 0), (1, 3), (7, 0), (7, 4)]]
+    {
+        assert_eq!(try_steps(&set, &bytes, &steps), Ok(write_plan(&passed[4])), "{steps:?}");
+    }
+    assert_eq!(weight(&plan), 6);
+    assert_eq!(weight(&passed[4]), 2);
+}
+
+#[test]
+fn k1_columns_further_out() {
+    let tables =
+        [one_column(&[7, 9, 7, 4]), table(&[&[7, 36], &[9, BLANK], &[4, 31], &[7, 33]]), one_column(&[30, 34])];
+    let g = || select(columns_test(9, Less, 2), scan(1, 1));
+    let linked = |own| select(columns_test(own, Equal, 1), g());
+    // The test and g name the row outside, and so may a Some, an Every and a Fold in between.
+    let test = columns_test(9, NotEqual, 2);
+    for list in [&[2][..], &[1, 2]] {
+        let inner = |own| project(list, linked(own));
+        for (plan, rule, after) in [
+            (some(test, scan(0, 0), inner(0)), 1, semi(0, 1, test, scan(0, 0), g())),
+            (every(test, scan(0, 0), inner(0)), 2, anti(0, 1, test.not_turned(), scan(0, 0), g())),
+            (
+                fold(Aggregate::Sum(2), 8, test, scan(0, 0), inner(0)),
+                5,
+                with_test(pair(Aggregate::Sum(2), 8, keys(0, Equal, 1), scan(0, 0), g()), test),
+            ),
+        ] {
+            let outer = each(scan(2, 9), plan);
+            assert_eq!(refusal(&tables, &outer), None);
+            assert_eq!(fit(&outer, 2, &tables), Some((rule, each(scan(2, 9), after.clone()))));
+            assert_eq!(rows(&tables, &outer), rows(&tables, &each(scan(2, 9), after)));
+            assert_eq!(unnest_tree(&outer, &tables).0, [(rule, 2)]);
+        }
+        // The compared column is of the row outside and not of e.
+        let outer = each(scan(2, 9), some(ALWAYS, scan(0, 0), inner(9)));
+        assert_eq!(refusal(&tables, &outer), None);
+        assert_eq!(unnest_tree(&outer, &tables).0, []);
+        // There the row outside is e, and g names it.
+        let outer = some(
+            ALWAYS,
+            scan(2, 9),
+            project(&[0], select(columns_test(9, Equal, 0), some(test, scan(0, 0), inner(0)))),
+        );
+        assert_eq!(refusal(&tables, &outer), None);
+        assert_eq!(unnest_tree(&outer, &tables).0, [(1, 4)]);
+    }
+}
+
+#[test]
+fn k1_needs_of_the_plans_passed_through() {
+    // Five columns in g, one of them listed.
+    let tables = [one_column(&[1, 2]), Table { columns: 5, rows: [1, 2, 1, 2].map(|key| vec![key; 5]).to_vec() }];
+    let inner = |list: &[u8]| project(list, select(columns_test(0, Equal, 1), scan(1, 1)));
+    let plan = some(number_test(3, Less, 3), players(), inner(&[3]));
+    let needs = |plan: &Plan, tables: &[Table]| -> Vec<u64> {
+        unnest_tree(plan, tables).1.iter().map(|plan| need(plan, tables) - 4096).collect()
+    };
+    // Some 2, Distinct 2, Scan 2, Project 4, Select 20, Scan 20; Semi 2 for the Some, without the Project and the Select; a Select of
+    // all five columns, 20, where the Project had one; Project 4, Select 8, Group 8, Scan 20.
+    assert_eq!(needs(&plan, &tables), [50, 26, 46, 40]);
+    assert_eq!(columns(plan.at(3).expect("the Project"), &tables), [3]);
+    let after = fit(&plan, 0, &tables).expect("U1").1;
+    assert_eq!(columns(after.at(3).expect("g"), &tables), [1, 2, 3, 4, 5]);
+    // One column in g, and one left row: the last plan has the largest need, where before the request no rule fitted.
+    let tables = [one_column(&[1]), one_column(&[1; 4])];
+    let plan = some(number_test(1, Less, 3), players(), inner(&[1]));
+    assert_eq!(needs(&plan, &tables), [15, 7, 11, 24]);
+    let (set, bytes) = (write_set(&tables), write_plan(&plan));
+    assert_eq!(report(&set, &bytes, 1, 4096 + 15).map(|report| report.codes), Ok(vec![1]));
+    assert_eq!(unnest(&set, &bytes, ROOMY, ROOMY, 4096 + 15), Err(16));
+    assert_eq!(unnest(&set, &bytes, ROOMY, ROOMY, 4096 + 23), Err(16));
+    assert_eq!(unnest(&set, &bytes, 0, 0, 4096 + 24), Err(15));
+    let left = unnest(&set, &bytes, HEADER + 4 * NODE, 6, 4096 + 24).expect("steps");
+    assert_eq!(left.steps, [(1, 0), (7, 0), (3, 0)]);
+}
+
+#[test]
+fn k1_a_plan_of_64_nodes_has_room() {
+    let Input { tables, plan } = club_with_project();
+    let mut full = plan;
+    while full.size() < 64 {
+        full = select(ALWAYS, full);
+    }
+    let (steps, passed) = unnest_tree(&full, &tables);
+    assert_eq!(steps, [(2, 58), (7, 58), (4, 58)]);
+    assert_eq!(passed.iter().map(Plan::size).collect::<Vec<_>>(), [64, 62, 63, 62]);
 }
 
 #[test]
