@@ -1,8 +1,8 @@
-//! The sample club drawn as text: its bytes, its plans as trees with their rows, and the listing.
+//! The sample club drawn as text: its bytes, its plans as trees with their rows, and the listing; and its plan with a Project between.
 
 use crate::calls::{cell_text, listing, unnest_tree, ROOMY};
 use crate::check::{bound, columns, need, need_parts};
-use crate::edges::club;
+use crate::edges::{club, club_with_project};
 use crate::evaluate::{rows, Scope};
 use crate::nodes::{write_plan, HEADER};
 use crate::plan::{Aggregate, Comparison, Form, Keys, Plan, Test, ALWAYS};
@@ -23,6 +23,8 @@ pub fn drawings() -> Vec<(String, String)> {
     let last = passed.last().expect("the given plan");
     all.push(("the last plan".to_string(), plan_drawing(last, &club.tables)));
     all.push(("the listing".to_string(), listing(&club.set_bytes(), &club.plan_bytes(), ROOMY)));
+    let with_project = tree_drawing(&club_with_project().plan, &club.tables);
+    all.push(("the plan with a Project between".to_string(), with_project));
     all
 }
 

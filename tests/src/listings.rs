@@ -3,7 +3,7 @@
 use crate::build::*;
 use crate::calls::listing;
 use crate::cells::{BLANK, LARGEST, OFF_SCALE};
-use crate::edges::club;
+use crate::edges::{club, club_with_project};
 use crate::generate::Input;
 use crate::nodes::write_plan;
 use crate::plan::{Plan, ALWAYS};
@@ -50,6 +50,7 @@ pub fn runs() -> Vec<Run> {
     vec![
         Run::of("paper", tables.clone(), plan.clone()),
         Run::of("stay", moved, plan.clone()),
+        Run::of("project", tables.clone(), club_with_project().plan),
         Run::of("codes", vec![codes], each(scan(0, 0), select(NEVER, scan(0, 3)))),
         Run::of("unit", vec![], Plan::Unit),
         Run::of("no_rows", vec![sized(2, 0)], scan(0, 0)),
