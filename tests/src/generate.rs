@@ -1,8 +1,9 @@
 //! Random tables and random accepted plans, biased so that each of the eight rules fits often.
 
+use crate::between::linked_key;
 use crate::build::*;
 use crate::cells::{BLANK, LARGEST, OFF_SCALE};
-use crate::check::{bound, check_tree};
+use crate::check::{bound, check_tree, columns};
 use crate::downward::keeping_equal_rows;
 use crate::evaluate::{column_cells, first_occurrences};
 use crate::nodes::write_plan;
@@ -734,6 +735,75 @@ fn over_list(random: &mut Random, list: Plan) -> Plan {
         4 => sort(random.chance(50), &ids, list),
         _ => group(Aggregate::Sum(12), 50, keys(51, random.pick(&COMPARISONS), 11), list),
     }
+}
+
+/// A random accepted input with something between a Some, an Every or a Fold and the Select that links its inner plan: a Project that lists
+/// the key, one that does not, two Projects, a Distinct or a Sort.
+pub fn with_between(random: &mut Random) -> Input {
+    loop {
+        let Input { tables, plan } = accepted(random);
+        let with_between = put_between(random, &plan, &tables);
+        if with_between != plan && with_between.size() <= 64 && check_tree(&with_between, &tables).is_ok() {
+            return Input { tables, plan: with_between };
+        }
+    }
+}
+
+/// The plan with something between most of its nested nodes and the Selects that link their inner plans.
+fn put_between(random: &mut Random, plan: &Plan, tables: &[Table]) -> Plan {
+    let mut all = plan.clone();
+    // From the last place on, so that the places before stay as they are.
+    for place in (0..plan.size()).rev() {
+        let node = all.at_mut(place).expect("a place of the plan");
+        if let Some(key) = linked_key(node, tables) {
+            let named = named_of_inner(node);
+            let inner = &mut *node.children_mut()[1];
+            *inner = under_between(random, inner, &named, key, tables);
+        }
+    }
+    all
+}
+
+/// The ids that a nested node names where it may name columns of its inner plan: in its test and its aggregate.
+fn named_of_inner(node: &Plan) -> Vec<u8> {
+    let aggregated = match node {
+        Plan::Fold { aggregate, .. } => aggregate.column(),
+        _ => None,
+    };
+    node.test().map_or(vec![], Test::names).into_iter().chain(aggregated).collect()
+}
+
+/// An inner plan, a Select with this key, under something that keeps the named ones of its columns; now and then the plan itself.
+fn under_between(random: &mut Random, inner: &Plan, named: &[u8], key: u8, tables: &[Table]) -> Plan {
+    let ids = columns(inner, tables);
+    let others: Vec<u8> = ids.iter().copied().filter(|&id| id != key).collect();
+    let named: Vec<u8> = ids.iter().copied().filter(|id| named.contains(id)).collect();
+    let child = inner.clone();
+    match random.below(10) {
+        0..=1 => project(&longer_list(random, &[&named[..], &[key]].concat(), &ids), child),
+        // A key that is named, or the only column, must be listed.
+        2..=5 if !others.is_empty() => project(&longer_list(random, &named, &others), child),
+        2..=5 => project(&[key], child),
+        6 => {
+            let upper = longer_list(random, &named, &ids);
+            project(&upper, project(&longer_list(random, &upper, &ids), child))
+        }
+        7 => distinct(&longer_list(random, &named, &ids), child),
+        8 => sort(random.chance(50), &longer_list(random, &[], &ids), child),
+        _ => child,
+    }
+}
+
+/// A list of these ids, which are at most seven, and of a few out of some others; none twice, in any order.
+fn longer_list(random: &mut Random, first: &[u8], others: &[u8]) -> Vec<u8> {
+    let mut list = Vec::new();
+    let few: Vec<u8> = (0..random.between(usize::from(first.is_empty()), 3)).map(|_| random.pick(others)).collect();
+    for &id in first.iter().chain(&few) {
+        if list.len() < 7 && !list.contains(&id) {
+            list.insert(random.below(list.len() + 1), id);
+        }
+    }
+    list
 }
 
 /// A list of steps to try on a plan: some fit where they stand, some do not.

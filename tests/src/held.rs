@@ -3,6 +3,7 @@
 //! Input number i of a seed is drawn from the seed plus i, so a difference can be met again alone.
 
 use crate::archive;
+use crate::between::Met;
 use crate::build::*;
 use crate::calls;
 use crate::cases::{damaged_once, fault_case};
@@ -11,7 +12,7 @@ use crate::check::need;
 use crate::damage::{faults, Fault};
 use crate::downward::{decided_by_equal_rows, sorts_with_equal_rows};
 use crate::evaluate::{column_cells, first_occurrences};
-use crate::generate::{accepted, code, common_beginning, downward, steps, totals, unequal, Input};
+use crate::generate::{accepted, code, common_beginning, downward, steps, totals, unequal, with_between, Input};
 use crate::plan::Comparison::{Equal, NotEqual};
 use crate::plan::{Aggregate, Form, Plan, Test, COMPARISONS};
 use crate::random::Random;
@@ -42,6 +43,8 @@ pub struct Counts {
     pub equal_rows: usize,
     /// Plans with such Sorts where the order of equal rows decided the report, the rules of the steps, the first node's note.
     pub decided: [usize; 3],
+    /// What stood between nested steps and their Selects, and the steps through a Project.
+    pub between: Met,
 }
 
 impl Counts {
@@ -63,6 +66,7 @@ impl Counts {
             + &format!("sums that are numbers {}, blank {}, off scale {}\n", self.sums[0], self.sums[1], self.sums[2])
             + &self.unequal_line()
             + &self.downward_line()
+            + &self.between.lines()
             + &format!("steps of the unnesting call{}\n", by_rule(&self.rules))
             + &format!("tried steps that fitted{}, that did not {}\n", by_rule(&self.tried), self.tried[0])
     }
@@ -162,7 +166,8 @@ pub fn hold_seeds(seed: u64, count: u64, counts: &mut Counts) -> Result<(), Stri
 /// A random input: accepted; with one fault or two; or with bytes changed, cut off or put on anywhere.
 fn drawn(random: &mut Random, faults: &[Fault]) -> (Vec<u8>, Vec<u8>) {
     match random.below(100) {
-        0..=50 => bytes_of(&accepted(random)),
+        0..=48 => bytes_of(&accepted(random)),
+        49..=50 => bytes_of(&with_between(random)),
         51..=52 => bytes_of(&downward(random)),
         53..=54 => bytes_of(&unequal(random)),
         55..=56 => bytes_of(&totals(random)),
@@ -264,6 +269,7 @@ pub fn hold_report(random: &mut Random, set: &[u8], plan: &[u8], counts: &mut Co
             counts.count_sums(&tree, &report);
             counts.count_unequal(&tree, &tables);
             counts.count_downward(&tree, &tables);
+            counts.between.count(&tree, &tables);
             (report.codes.len(), need(&tree, &tables) as usize)
         }
         Err(_) => (random.below(9), random.below(5000)),
@@ -319,7 +325,7 @@ fn hold_tried_steps(random: &mut Random, set: &[u8], plan: &[u8], counts: &mut C
 }
 
 /// The unnesting call at the edge of its three rooms, and at rooms around it; and the report of the plan that it leaves.
-fn hold_unnest(random: &mut Random, set: &[u8], plan: &[u8], counts: &mut Counts) -> Result<(), String> {
+pub fn hold_unnest(random: &mut Random, set: &[u8], plan: &[u8], counts: &mut Counts) -> Result<(), String> {
     let left = calls::unnest(set, plan, calls::ROOMY, calls::ROOMY, calls::ROOMY);
     let (bytes, step_bytes, need) = match &left {
         Ok(left) => {

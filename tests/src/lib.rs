@@ -7,6 +7,7 @@
 
 #[cfg(archive)]
 pub mod archive;
+pub mod between;
 pub mod build;
 pub mod calls;
 pub mod cases;

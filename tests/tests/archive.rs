@@ -7,12 +7,13 @@ mod held {
     use second::calls::need_of;
     use second::cases::cases;
     use second::cells::{is_number, BLANK, LARGEST, OFF_SCALE};
+    use second::check::columns;
     use second::edges::edges;
     use second::generate::Input;
-    use second::held::{hold, hold_report, hold_seeds, Counts};
+    use second::held::{hold, hold_report, hold_seeds, hold_unnest, Counts};
     use second::nodes::write_plan;
-    use second::plan::Comparison::Equal;
-    use second::plan::{Aggregate, Comparison, Plan, COMPARISONS};
+    use second::plan::Comparison::{Equal, Greater, Less};
+    use second::plan::{Aggregate, Comparison, Plan, Test, ALWAYS, COMPARISONS};
     use second::random::Random;
     use second::tables::{write_set, Table};
 
@@ -35,6 +36,11 @@ mod held {
         assert!(met(&counts.sums, 200), "{:?}", counts.sums);
         assert!(counts.unequal.iter().all(|sides| met(sides, 100)), "{:?}", counts.unequal);
         assert!(counts.equal_rows >= 200 && met(&counts.decided, 40), "{}, {:?}", counts.equal_rows, counts.decided);
+        let between = &counts.between;
+        assert!(
+            met(&between.between, 20) && met(between.through.as_flattened(), 10) && between.first >= 40,
+            "{between:?}"
+        );
     }
 
     #[test]
@@ -99,14 +105,14 @@ mod held {
     /// Cells that decide an aggregate or a comparison: the two codes that are no numbers, the ends of the range, 1 and 0.
     const CELLS: [i32; 6] = [BLANK, OFF_SCALE, LARGEST, -LARGEST, 1, 0];
 
-    /// All lists of up to four of these items.
-    fn short_lists<T: Clone>(items: &[T]) -> Vec<Vec<T>> {
+    /// All lists of up to so many of these items.
+    fn short_lists<T: Clone>(items: &[T], most: usize) -> Vec<Vec<T>> {
         let longer = |list: &Vec<T>| -> Vec<Vec<T>> {
             items.iter().map(|item| list.iter().chain([item]).cloned().collect()).collect()
         };
         let mut all = vec![vec![]];
         let mut longest = all.clone();
-        for _ in 0..4 {
+        for _ in 0..most {
             longest = longest.iter().flat_map(longer).collect();
             all.extend(longest.clone());
         }
@@ -119,7 +125,7 @@ mod held {
         let mut counts = Counts::default();
         let all_pass = number_test(1, Equal, 7);
         let by_key = keys(0, Equal, 1);
-        for list in short_lists(&CELLS) {
+        for list in short_lists(&CELLS, 4) {
             // The key 7 in each row, and a cell of the list.
             let cells = Table { columns: 2, rows: list.iter().map(|&cell| vec![7, cell]).collect() };
             let set = write_set(&[cells, one_column(&[7])]);
@@ -193,7 +199,7 @@ mod held {
         let mut counts = Counts::default();
         let codes = [BLANK, 0, OFF_SCALE];
         let every_two: Vec<[i32; 2]> = codes.iter().flat_map(|&one| codes.map(|other| [one, other])).collect();
-        for cells in short_lists(&every_two) {
+        for cells in short_lists(&every_two, 4) {
             let set = numbered(&cells);
             for list in [&[0][..], &[1], &[0, 1], &[1, 0]] {
                 let [upward, downward] = [false, true].map(|down| sorted(&mut random, &set, down, list, &mut counts));
@@ -207,6 +213,67 @@ mod held {
         assert_eq!(counts.equal_rows, 2 * (7_381 - 226) + 2 * (7_381 - 3_610));
         // The numbers tell equal rows apart, so each report shows their order.
         assert_eq!(counts.decided[0], counts.equal_rows);
+    }
+
+    /// A node of an inner plan over cards, which have a player under the id 1, the key, a score under 2 and a number under 3.
+    #[derive(Clone, Copy, Debug)]
+    enum Unary {
+        ProjectWithKey,
+        ProjectWithoutKey,
+        Distinct,
+        Sort,
+        Select(Test),
+    }
+
+    /// The nodes that are tried: among them each Select that links by = or <, either way round, without and with a not-mark.
+    fn unary_nodes() -> Vec<Unary> {
+        let linked = [Equal, Less].iter().flat_map(|&by| [columns_test(0, by, 1), columns_test(1, by, 0)]);
+        let both_marks = linked.flat_map(|test| [test, test.not_turned()]);
+        let selects = both_marks.chain([number_test(3, Less, 4)]).map(Unary::Select);
+        let others = [Unary::ProjectWithKey, Unary::ProjectWithoutKey, Unary::Distinct, Unary::Sort];
+        others.into_iter().chain(selects).collect()
+    }
+
+    /// The node over a plan. A Distinct is of all columns.
+    fn over(child: Plan, node: &Unary, tables: &[Table]) -> Plan {
+        match node {
+            Unary::ProjectWithKey => project(&[3, 1, 2], child),
+            Unary::ProjectWithoutKey => project(&[2, 3], child),
+            Unary::Distinct => distinct(&columns(&child, tables), child),
+            Unary::Sort => sort(true, &[2], child),
+            Unary::Select(test) => select(*test, child),
+        }
+    }
+
+    #[test]
+    fn k1_chains_below_nested_steps_are_unnested_as_by_the_second_evaluator() {
+        let mut random = Random::new(10);
+        let mut counts = Counts::default();
+        let mut differences = Vec::new();
+        let cards = table(&[&[7, 36, 1, 0], &[9, BLANK, 2, 0], &[4, 31, 3, 0], &[7, 33, 4, 0], &[7, 33, 4, 0]]);
+        let tables = [one_column(&[7, 9, 7, 4]), cards];
+        let set = write_set(&tables);
+        let players = || distinct(&[0], scan(0, 0));
+        let over_32 = number_test(2, Greater, 32);
+        for chain in short_lists(&unary_nodes(), 3) {
+            let inner = chain.iter().fold(scan(1, 1), |child, node| over(child, node, &tables));
+            for plan in [
+                some(over_32, players(), inner.clone()),
+                every(over_32, players(), inner.clone()),
+                fold(Aggregate::Sum(2), 9, ALWAYS, players(), inner),
+            ] {
+                let bytes = write_plan(&plan);
+                let held = hold_report(&mut random, &set, &bytes, &mut counts)
+                    .and_then(|()| hold_unnest(&mut random, &set, &bytes, &mut counts));
+                differences.extend(held.err().map(|difference| format!("{plan:?}: {difference}")));
+            }
+        }
+        print!("chains of up to three nodes: {}", counts.between.lines());
+        assert!(differences.is_empty(), "{} differences, first {}", differences.len(), differences[0]);
+        // A step through a Project: either Project, over a Select without a not-mark either way round, by = or for U5 by < too, over the
+        // Scan or over one of the four nodes that keep the key and do not name e's column.
+        assert_eq!(counts.between.through, [[10, 10], [10, 10], [20, 20]]);
+        assert_eq!(counts.between.first, 80);
     }
 }
 

@@ -1,15 +1,17 @@
 //! Checks over random accepted plans that catch mistakes in reading the paper: unnesting keeps
 //! the report, the steps stay within the weight, and no rule is left that fits.
 
+use second::between::Met;
 use second::calls::{read, report_of, unnest_tree};
 use second::check::columns;
 use second::downward::{decided_by_equal_rows, sorts_with_equal_rows};
-use second::generate::{accepted, common_beginning, downward, steps, totals, unequal, Input};
+use second::generate::{accepted, common_beginning, downward, steps, totals, unequal, with_between, Input};
 use second::nodes::write_plan;
 use second::plan::Comparison::NotEqual;
 use second::plan::{Form, Plan, Test};
 use second::random::Random;
 use second::rules::{first_fit, fit, sequences, stay_position, try_step, weight};
+use second::tables::Table;
 
 /// How many random plans are tried.
 const PLANS: u64 = 10_000;
@@ -28,14 +30,15 @@ fn unnesting_keeps_the_report() {
     let mut unequal_steps = [0usize; 9];
     let mut kinds = [0usize; 15];
     let mut longest = 0;
-    for seed in 0..PLANS + 1200 {
+    for seed in 0..PLANS + 1600 {
         let mut random = Random::new(seed);
-        // After the plans of every sort, sums over blanks, comparisons with blanks and downward lists in turn.
-        let input = match seed.checked_sub(PLANS).map(|further| further % 3) {
+        // After the plans of every sort, sums over blanks, comparisons with blanks, downward lists and Projects in between in turn.
+        let input = match seed.checked_sub(PLANS).map(|further| further % 4) {
             None => accepted(&mut random),
             Some(0) => totals(&mut random),
             Some(1) => unequal(&mut random),
-            Some(_) => downward(&mut random),
+            Some(2) => downward(&mut random),
+            Some(_) => with_between(&mut random),
         };
         let (tables, tree) = read(&input.set_bytes(), &input.plan_bytes()).expect("an accepted plan");
         assert_eq!((&tables, &tree), (&input.tables, &input.plan));
@@ -64,9 +67,9 @@ fn unnesting_keeps_the_report() {
 fn any_list_of_steps_keeps_the_report() {
     let mut changed = [0usize; 9];
     let mut stayed = 0;
-    for seed in 0..4_000 {
+    for seed in 0..5_000 {
         let mut random = Random::new(1_000_000 + seed);
-        let input = accepted(&mut random);
+        let input = if seed < 4_000 { accepted(&mut random) } else { with_between(&mut random) };
         let tables = &input.tables;
         let list = steps(&mut random, &input);
         let mut plan = input.plan.clone();
@@ -126,4 +129,49 @@ fn k3_the_order_of_equal_rows_decides_reports_steps_and_notes() {
     }
     println!("downward Sorts with equal rows {sorts}; reports, steps and notes that their order decides {counts:?}");
     assert!(sorts > 700 && counts.iter().all(|&count| count > 100), "{sorts}, {counts:?}");
+}
+
+/// So many plans that the steps of one input lead to are enough.
+const ENOUGH: usize = 500;
+
+/// The plans that steps lead to from this one, in whatever order they are taken, itself first. It looks no further where there are enough.
+fn in_every_order(plan: &Plan, tables: &[Table]) -> Vec<Plan> {
+    let mut all = vec![plan.clone()];
+    let mut looked_at = 0;
+    while looked_at < all.len() && all.len() < ENOUGH {
+        let from = all[looked_at].clone();
+        for (_, after) in (0..from.size()).filter_map(|place| fit(&from, place, tables)) {
+            if !all.contains(&after) {
+                all.push(after);
+            }
+        }
+        looked_at += 1;
+    }
+    all
+}
+
+#[test]
+fn k1_every_order_of_steps_keeps_the_report() {
+    let mut met = Met::default();
+    let (mut plans, mut orders, mut cut_short) = (0, 0, 0);
+    for seed in 0..2_000 {
+        let Input { tables, plan } = with_between(&mut Random::new(4_000_000 + seed));
+        met.count(&plan, &tables);
+        let (ids, report) = (columns(&plan, &tables), report_of(&plan, &tables));
+        let all = in_every_order(&plan, &tables);
+        for after in &all {
+            assert_eq!(columns(after, &tables), ids, "seed {seed}");
+            assert_eq!(report_of(after, &tables), report, "seed {seed}");
+        }
+        plans += all.len();
+        cut_short += usize::from(all.len() >= ENOUGH);
+        // More plans than one order passes through.
+        orders += usize::from(all.len() > unnest_tree(&plan, &tables).1.len());
+    }
+    print!("{}", met.lines());
+    print!("plans that steps lead to in every order {plans}; ");
+    println!("inputs with more than one order {orders}, with more plans than were looked at {cut_short}");
+    assert!(met.between.iter().all(|&count| count > 100), "{met:?}");
+    assert!(met.through.iter().flatten().all(|&count| count > 50) && met.first > 300, "{met:?}");
+    assert!(orders > 300 && cut_short < 20, "{orders}, {cut_short}");
 }
