@@ -1510,13 +1510,13 @@ fn k1_u6_u7_and_u8_keep_a_project() {
     assert_eq!(fit(&paired(cut()), 0, &tables), Some((6, grouped)));
     assert_eq!(stay_position(&paired(project(&[1, 2], scan(1, 1))), 0, &tables), Some(1));
     // U7 puts its Select above the Project.
-    let even = number_test(2, Less, 34);
-    let moved = |right| semi(0, 1, ALWAYS, players(), select(even, right));
-    assert_eq!(fit(&semi(0, 1, even, players(), cut()), 0, &tables), Some((7, moved(cut()))));
-    let moved = anti(0, 1, ALWAYS, players(), select(even, cut()));
-    assert_eq!(fit(&anti(0, 1, even, players(), cut()), 0, &tables), Some((7, moved)));
+    let under_34 = number_test(2, Less, 34);
+    let moved = |right| semi(0, 1, ALWAYS, players(), select(under_34, right));
+    assert_eq!(fit(&semi(0, 1, under_34, players(), cut()), 0, &tables), Some((7, moved(cut()))));
+    let moved = anti(0, 1, ALWAYS, players(), select(under_34, cut()));
+    assert_eq!(fit(&anti(0, 1, under_34, players(), cut()), 0, &tables), Some((7, moved)));
     // A test of a column that the Project cut off is not in view.
-    assert_eq!(refusal(&tables, &semi(0, 1, even, players(), project(&[1], scan(1, 1)))), Some(12));
+    assert_eq!(refusal(&tables, &semi(0, 1, under_34, players(), project(&[1], scan(1, 1)))), Some(12));
     // U8 leaves the Project in the Cross; an Each over a linked Select fits with a Project as little as without.
     assert_eq!(fit(&each(scan(0, 0), cut()), 0, &tables), Some((8, cross(scan(0, 0), cut()))));
     let linked = || select(columns_test(0, Equal, 1), scan(1, 1));
