@@ -395,6 +395,7 @@ fn no_fit_through_a_project() -> Vec<(&'static str, Input)> {
         ("a Fold over two Projects", sum_under_50(project(&[1, 2], project(&[2, 1], same())))),
         ("Some over a Distinct", one_over_32(distinct(&[1, 2], same()))),
         ("a Fold over a Distinct", sum_under_50(distinct(&[2], same()))),
+        ("Some over a Group", some(ALWAYS, each_player(), group(Aggregate::Count, 8, keys(9, Equal, 1), same()))),
         ("Every over an upward Sort", all_over_32(sort(false, &[2], same()))),
         ("a Fold over a downward Sort", sum_under_50(sort(true, &[2, 1], same()))),
         ("Every over a Project over a Sort", all_over_32(project(&[2], sort(false, &[2], same())))),
