@@ -1,6 +1,6 @@
 -- What the soundness of the unnestings asks of the plans before and after them follows from the refusals. Assumes nothing.
 use Prim.Native.Nat.{ℕ}
-use mathlib.Core.Bool.{Bool, true, false, not, _||_, false≢true, and-eq-true-iff}
+use mathlib.Core.Bool.{Bool, true, false, not, _||_, or-true, false≢true, and-eq-true-iff}
 use mathlib.Core.Path.{_≡_, refl, sym, _∙_}
 use mathlib.Core.List.{List, [], _∷_, _++_}
 use lib.Dec.{eqb}
@@ -21,10 +21,6 @@ or-false : (a b : Bool) → not (a || b) ≡ true → a ≡ false
 or-false true b h = sym h
 or-false false b h = refl
 
-or-true : (a : Bool) → (a || true) ≡ true
-or-true true = refl
-or-true false = refl
-
 -- a test that each number of a list passes
 all-in : (p : ℕ → Bool) (xs : List ℕ) → ((x : ℕ) → In x xs → p x ≡ true) → all p xs ≡ true
 all-in p [] h = refl
@@ -42,8 +38,8 @@ module _ (T : Tables) where
   )
   unary-fine scope (sort d ids) p h v g = tt
 
-  -- cs and ds the columns of a node's children, scope those of the rows that it is nested in: what it names are listed columns where f is a
-  -- Project, or no columns of the Project's child, since they are introduced elsewhere
+  -- cs the columns of a node's first child e, scope those of the rows that the node is nested in: where its second child f is a Project, what
+  -- it names are listed columns, or no columns of the Project's child, since they are introduced elsewhere
   shown-in-view : (cs scope inner xs : List ℕ) {f g : Plan} (u : Under f g) → inView T inner f ≡ true → Apart (cs ++ scope) (introduced T f)
       → ((x : ℕ) → In x xs → In x (cs ++ (columns T f ++ scope))) → Shown T xs u
   unfolding columns introduced
@@ -62,11 +58,11 @@ module _ (T : Tables) where
   binary-fine scope inner (quant m t) e f h v o =
       shown-in-view (columns T e) scope inner (names t) (under f) v o (λ x. in-within x (names t) (columns T e ++ (columns T f ++ scope)) h)
   binary-fine scope inner (fold a n t) e f h v o =
-      let all : List ℕ = columns T e ++ (columns T f ++ scope) in
-      let (k, (l, _)) = every-true (within (measured a) (columns T f) ∷ within (names t) all ∷ []) h in
+      let seen : List ℕ = columns T e ++ (columns T f ++ scope) in
+      let (k, (l, _)) = every-true (within (measured a) (columns T f) ∷ within (names t) seen ∷ []) h in
       shown-in-view (columns T e) scope inner (measured a ++ names t) (under f) v o (λ x. in-cases x (measured a) (names t)
       (λ i. in-right x (columns T e) (columns T f ++ scope) (in-left x (columns T f) scope (in-within x (measured a) (columns T f) k i)))
-      (in-within x (names t) all l))
+      (in-within x (names t) seen l))
   binary-fine scope inner each e f h v o = tt
   binary-fine scope inner (pair a n l r c t) e f h v o = tt
 

@@ -9,6 +9,7 @@ use native.Mathlib.Omega.{arith}
 use native.Mathlib.Decide.{ℕ-discrete}
 use lib.Dec.{eqb, leb}
 use lib.ListN.{length, take, getD}
+use borrow.Author.Tests.{ne-eqb}
 use Rattle.algebra.specs.Lists.{if_then_else_, every, flatMap}
 use Rattle.algebra.specs.Cells.{Comparison, eq, gt, Aggregate, count, origin}
 use Rattle.algebra.specs.Plans.{Tables, test, Test as MarkedTest, plain, isPlain, numberOf, Unary, select, project, distinct, group, sort, Binary, semi, pair, Plan, leaf, one, two}
@@ -116,18 +117,30 @@ module _ (plan : List ℕ) (e : ℕ) (h : e < nodesOf plan) (key : ℕ) (node : 
     pub only-first : node .listed ≡ 1 → eqb (getD (node .list) 0 0) key ≡ keyOnly key (onlyOf (planAt plan e))
     only-first d = sym (ap (λ (n : ℕ). keyList key (take n (node .list))) d ∙ key-first key (node .list) long) ∙ listed-at
 
+-- ---- a node with one child, by its kind
+
+abbrev unaryKind : Unary → ℕ
+unaryKind (select t) = 2
+unaryKind (project ids) = 3
+unaryKind (distinct ids) = 4
+unaryKind (group a n l r c t) = 13
+unaryKind (sort d ids) = 14
+
+abbrev pub hasKind : ℕ → Operator → Bool
+hasKind d (leafNode x) = false
+hasKind d (unaryNode u) = eqb (unaryKind u) d
+hasKind d (binaryNode b) = false
+
+pub other-kind : (d : ℕ) (node : Node) (k : ℕ) → (k ≡ d → ⊥) → hasKind d (operatorBy k node) ≡ false
+unfolding operatorBy
+other-kind d node =
+    by-kind (λ k. (k ≡ d → ⊥) → hasKind d (operatorBy k node) ≡ false)
+    (λ n. refl) (λ n. refl) (ne-eqb 2 d) (ne-eqb 3 d) (ne-eqb 4 d) (λ n. refl) (λ n. refl) (λ n. refl) (λ n. refl) (λ n. refl) (λ n. refl) (λ n. refl) (λ n. refl) (ne-eqb 13 d) (ne-eqb 14 d)
+    (λ k h n. ap (hasKind d) (kind-above node k h))
+
 -- ---- a Select on top, by the node
 
-abbrev pub selects : Operator → Bool
-selects (leafNode x) = false
-selects (unaryNode (select t)) = true
-selects (unaryNode (project ids)) = false
-selects (unaryNode (distinct ids)) = false
-selects (unaryNode (group a n l r c t)) = false
-selects (unaryNode (sort d ids)) = false
-selects (binaryNode b) = false
-
-pub no-select : (p : Plan) → selects (root p) ≡ false → (removed (top p) ≡ plain) × (bare (top p) ≡ p)
+pub no-select : (p : Plan) → hasKind 2 (root p) ≡ false → (removed (top p) ≡ plain) × (bare (top p) ≡ p)
 no-select (leaf x) h = (refl, refl)
 no-select (one (select s) g) h = absurd (false≢true (sym h))
 no-select (one (project ids) g) h = (refl, refl)
@@ -135,13 +148,6 @@ no-select (one (distinct ids) g) h = (refl, refl)
 no-select (one (group a n l r c t) g) h = (refl, refl)
 no-select (one (sort d ids) g) h = (refl, refl)
 no-select (two b e f) h = (refl, refl)
-
-pub other-kind : (node : Node) (k : ℕ) → (k ≡ 2 → ⊥) → selects (operatorBy k node) ≡ false
-unfolding operatorBy
-other-kind node =
-    by-kind (λ k. (k ≡ 2 → ⊥) → selects (operatorBy k node) ≡ false)
-    (λ n. refl) (λ n. refl) (λ n. absurd (n refl)) (λ n. refl) (λ n. refl) (λ n. refl) (λ n. refl) (λ n. refl) (λ n. refl) (λ n. refl) (λ n. refl) (λ n. refl) (λ n. refl) (λ n. refl) (λ n. refl)
-    (λ k h n. ap selects (kind-above node k h))
 
 pub operator-select : (node : Node) (k : ℕ) → k ≡ 2 → operatorBy k node ≡ unaryNode (select (nodeTest node))
 unfolding operatorBy
@@ -322,7 +328,7 @@ module _ {set plan : List ℕ} {i : ℕ} {node : Node} {f : ℕ} (p : Placed set
 
           pub count-other : (inner .kind ≡ 2 → ⊥) → Makes T (some c) plan i (countChange i node c false Always f)
           count-other d =
-              let o = no-select (planAt plan f) (ap selects (root-at plan f (semi-at .second) ∙ ap operatorOf (sym at)) ∙ other-kind inner (inner .kind) d) in
+              let o = no-select (planAt plan f) (ap (hasKind 2) (root-at plan f (semi-at .second) ∙ ap operatorOf (sym at)) ∙ other-kind 2 inner (inner .kind) d) in
               count-makes f false Always refl (omega arith) (sym (semi-at .end)) (o .0) (o .1)
 
   -- ---- U6

@@ -13,14 +13,14 @@ use borrow.Author.Tests.{ne-eqb}
 use Rattle.algebra.specs.Lists.{if_then_else_, flip, member}
 use Rattle.algebra.specs.Cells.{ne, lt, le, gt, ge, turn}
 use Rattle.algebra.specs.Plans.{Tables, columnsOf, test, turned, Unary, select, project, distinct, group, sort, Binary, quant, fold, semi, pair, Plan, one, two, columns}
-use Rattle.algebra.specs.Places.{Operator, leafNode, unaryNode, binaryNode, size, flatten}
+use Rattle.algebra.specs.Places.{unaryNode, binaryNode, size, flatten}
 use Rattle.algebra.specs.Rules.{top, unprojected, unlinked, link, linkBy, linkOf, isEqual, avoids, toSemi, toPair, u1, u5, Link as KeyLink}
 use Rattle.algebra.proofs.Places.{size-positive}
 use Rattle.reading.specs.Plan.{nodeAt, nodesOf}
 use Rattle.reading.specs.Tree.{comparisonOf, nodeTest, nodeList, nodeAggregate, operatorBy, operatorOf, operatorAt, planAt, wholeTree}
 use Rattle.reading.specs.Encoding.{markByte, nodeBytes}
 use Rattle.reading.specs.declared.plan.Node.{Node}
-use Rattle.reading.proofs.Operators.{by-kind, kind-above}
+use Rattle.reading.proofs.Operators.{by-kind}
 use Rattle.reading.proofs.Trees.{plan-case}
 use Rattle.reading.proofs.Ends.{endAt}
 use Rattle.reading.proofs.Places.{flatMap-joined}
@@ -32,7 +32,7 @@ use Rattle.unnesting.specs.declared.change.Change.{Change}
 use Rattle.unnesting.specs.declared.change.Shape.{Shape}
 use Rattle.unnesting.specs.declared.join.Link.the-variants.{None, Keys}
 use Rattle.unnesting.proofs.AllowedNodes.{AllowedNode, allowed-node}
-use Rattle.unnesting.proofs.CountLaws.{selects, other-kind}
+use Rattle.unnesting.proofs.CountLaws.{hasKind, other-kind}
 use Rattle.unnesting.proofs.ImageLaws.{keyed-image, pair-image}
 use Rattle.unnesting.proofs.PlaceLaws.{slice-at, two-at, one-at}
 
@@ -79,22 +79,6 @@ module _ {first second : List ℕ} {a b : ℕ} {straight : Bool} (s : Stand firs
 
 -- ---- the tree without its top Project
 
-abbrev projects : Operator → Bool
-projects (leafNode x) = false
-projects (unaryNode (select t)) = false
-projects (unaryNode (project ids)) = true
-projects (unaryNode (distinct ids)) = false
-projects (unaryNode (group a n l r c t)) = false
-projects (unaryNode (sort d ids)) = false
-projects (binaryNode b) = false
-
-unprojecting : (node : Node) (k : ℕ) → (k ≡ 3 → ⊥) → projects (operatorBy k node) ≡ false
-unfolding operatorBy
-unprojecting node =
-    by-kind (λ k. (k ≡ 3 → ⊥) → projects (operatorBy k node) ≡ false)
-    (λ n. refl) (λ n. refl) (λ n. refl) (λ n. absurd (n refl)) (λ n. refl) (λ n. refl) (λ n. refl) (λ n. refl) (λ n. refl) (λ n. refl) (λ n. refl) (λ n. refl) (λ n. refl) (λ n. refl) (λ n. refl)
-    (λ k h n. ap projects (kind-above node k h))
-
 module _ (plan : List ℕ) (f : ℕ) (h : f < nodesOf plan) (node : Node) (is : node ≡ nodeAt plan f) where
   pub unprojected-below : wholeTree plan ≡ true → node .kind ≡ 3 → UnprojectedAt plan f (f + 1)
   unfolding operatorBy
@@ -111,14 +95,14 @@ module _ (plan : List ℕ) (f : ℕ) (h : f < nodesOf plan) (node : Node) (is : 
   pub unprojected-same : (node .kind ≡ 3 → ⊥) → UnprojectedAt plan f f
   unprojected-same d = record {
     tree =
-        plan-case plan f (λ op p. projects op ≡ false → p ≡ unprojected p) (λ x q. refl) by (λ b q. refl) h
-        (ap (λ (n : Node). projects (operatorOf n)) (sym is) ∙ unprojecting node (node .kind) d);
+        plan-case plan f (λ op p. hasKind 3 op ≡ false → p ≡ unprojected p) (λ x q. refl) by (λ b q. refl) h
+        (ap (λ (n : Node). hasKind 3 (operatorOf n)) (sym is) ∙ other-kind 3 node (node .kind) d);
     inside = h;
     behind = omega arith;
     end = refl;
   }
     where
-      by : (u : Unary) → projects (unaryNode u) ≡ false → one u (planAt plan (f + 1)) ≡ unprojected (one u (planAt plan (f + 1)))
+      by : (u : Unary) → hasKind 3 (unaryNode u) ≡ false → one u (planAt plan (f + 1)) ≡ unprojected (one u (planAt plan (f + 1)))
       by (select t) q = refl
       by (project ids) q = absurd (true≢false q)
       by (distinct ids) q = refl
@@ -135,10 +119,10 @@ module _ (T : Tables) (e : Plan) (plan : List ℕ) (f : ℕ) (h : f < nodesOf pl
   module _ (node : Node) (is : node ≡ nodeAt plan f) where
     pub link-other : (node .kind ≡ 2 → ⊥) → unlinked ≡ topLink T e (top (planAt plan f))
     link-other d =
-        plan-case plan f (λ op p. selects op ≡ false → unlinked ≡ topLink T e (top p)) (λ x q. refl) by (λ b q. refl) h
-        (ap (λ (n : Node). selects (operatorOf n)) (sym is) ∙ other-kind node (node .kind) d)
+        plan-case plan f (λ op p. hasKind 2 op ≡ false → unlinked ≡ topLink T e (top p)) (λ x q. refl) by (λ b q. refl) h
+        (ap (λ (n : Node). hasKind 2 (operatorOf n)) (sym is) ∙ other-kind 2 node (node .kind) d)
       where
-        by : (u : Unary) → selects (unaryNode u) ≡ false → unlinked ≡ topLink T e (top (one u (planAt plan (f + 1))))
+        by : (u : Unary) → hasKind 2 (unaryNode u) ≡ false → unlinked ≡ topLink T e (top (one u (planAt plan (f + 1))))
         by (select t) q = absurd (true≢false q)
         by (project ids) q = refl
         by (distinct ids) q = refl

@@ -39,7 +39,7 @@ use Rattle.unnesting.specs.declared.sequence.Compared.{Compared}
 use Rattle.unnesting.specs.declared.sequence.Compared.the-variants.{Same, Differ}
 use Rattle.unnesting.proofs.PlaceLaws.{one-at, two-at}
 use Rattle.unnesting.proofs.RuleLaws.{rule-at}
-use Rattle.unnesting.proofs.CountLaws.{selects, no-select, other-kind, operator-select}
+use Rattle.unnesting.proofs.CountLaws.{hasKind, no-select, other-kind, operator-select}
 use Rattle.unnesting.proofs.Widths.{Wide, nothing, more, eval-wide, table-wide}
 
 -- ---- sequences of cells, compared
@@ -307,4 +307,4 @@ module _ (plan : List ℕ) (f : ℕ) (node : Node) (h : f < nodesOf plan) (e : n
       let t = one-at plan whole f h (select (nodeTest node)) (sym (ap operatorOf e) ∙ operator-select node (node .kind) z) in sym (ap (λ (p : Plan). bare (top p)) (t .tree))
 
   pub bare-same : (node .kind ≡ 2 → ⊥) → planAt plan f ≡ bare (top (planAt plan f))
-  bare-same z = sym (no-select (planAt plan f) (ap selects (root-at plan f h ∙ sym (ap operatorOf e)) ∙ other-kind node (node .kind) z) .1)
+  bare-same z = sym (no-select (planAt plan f) (ap (hasKind 2) (root-at plan f h ∙ sym (ap operatorOf e)) ∙ other-kind 2 node (node .kind) z) .1)
