@@ -123,5 +123,7 @@ pub record Examples : Type 0 where
       × (noteDue movedSet (writtenPlan movedSet clubPlan) 0 ≡ some (record { first = single (7 ∷ 9 ∷ 4 ∷ []); second = single (9 ∷ 7 ∷ 4 ∷ []) }))
       × (stayAnswer movedSet (writtenPlan movedSet clubPlan) 0 8192 ≡ Position 0)
       × (noteDue movedSet (bytesLeft movedSet clubPlan (record { number = 2; place = 0 } ∷ [])) 0 ≡ none)
-  -- The sample club with a Project between: accepted, and the steps and the plan left are the same.
-  pub projected : (inputRefusal clubSet projectedPlan ≡ 0) × (writtenSteps clubSet projectedPlan ≡ writtenSteps clubSet clubPlan) × (writtenPlan clubSet projectedPlan ≡ writtenPlan clubSet clubPlan)
+  -- The sample club with a Project between is accepted, and its steps and the plan left are those without it.
+  pub projected : (inputRefusal clubSet projectedPlan ≡ 0)
+      × (writtenSteps clubSet projectedPlan ≡ writtenSteps clubSet clubPlan)
+      × (writtenPlan clubSet projectedPlan ≡ writtenPlan clubSet clubPlan)
