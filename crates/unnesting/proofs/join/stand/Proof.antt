@@ -10,21 +10,21 @@ use Rattle.unnesting.proofs.join.stand.Tie as tie
 use Rattle.unnesting.proofs.join.stand.Reads as reads
 use Rattle.unnesting.proofs.join.stand.Lts as lts
 
--- src/join.rt:59:8
+-- src/join.rt:60:8
 array-read-if1 : tie.Need-array-read-if1
 array-read-if1 c = search needs
 
--- src/join.rt:60:9
+-- src/join.rt:61:9
 returns : tie.Need-returns
 returns c = record {
   decides = λ xs ys f g. sym (ap (λ (z : Bool). z && member (c .before .args .b) ys) (sym (flag-decides _ xs f (c .before .args .a) (omega arith)) ∙ ne-eqb _ 1 (c .if1 .taken)));
 }
 
--- src/join.rt:62:5
+-- src/join.rt:63:5
 array-read-result : tie.Need-array-read-result
 array-read-result c = search needs
 
--- src/join.rt:54:1
+-- src/join.rt:55:1
 returns-2 : tie.Need-returns-2
 returns-2 c = record {
   decides = λ xs ys f g.

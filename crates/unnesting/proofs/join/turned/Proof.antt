@@ -6,23 +6,23 @@ use Rattle.unnesting.proofs.join.turned.Tie as tie
 use Rattle.unnesting.proofs.join.turned.Reads as reads
 use Rattle.unnesting.proofs.join.turned.Lts as lts
 
--- src/join.rt:39:9
+-- src/join.rt:40:9
 returns : tie.Need-returns
 returns c = turn-low (c .before .args .comparison) (c .if1 .taken)
 
--- src/join.rt:42:9
+-- src/join.rt:43:9
 returns-2 : tie.Need-returns-2
 returns-2 c = (rw (c .if2 .taken), refl)
 
--- src/join.rt:45:9
+-- src/join.rt:46:9
 returns-3 : tie.Need-returns-3
 returns-3 c = (rw (c .if3 .taken), refl)
 
--- src/join.rt:48:9
+-- src/join.rt:49:9
 returns-4 : tie.Need-returns-4
 returns-4 c = (rw (c .if4 .taken), refl)
 
--- src/join.rt:35:1
+-- src/join.rt:36:1
 returns-5 : tie.Need-returns-5
 returns-5 c = (turn-high (c .before .before .before .before .args .comparison) (λ h. omega (arith, c .before .before .before .if1 .left)) (c .before .before .if2 .left) (c .before .if3 .left) (c .if4 .left), refl)
 
