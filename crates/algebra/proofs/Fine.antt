@@ -4,13 +4,12 @@ use mathlib.Core.Bool.{Bool, true, false, not, _||_, or-true, false≢true, and-
 use mathlib.Core.Path.{_≡_, refl, sym, _∙_}
 use mathlib.Core.List.{List, [], _∷_, _++_}
 use lib.Dec.{eqb}
-use borrow.Author.Tests.{eq-eqb}
 use Rattle.algebra.specs.Lists.{all, every, member, unique, within}
 use Rattle.algebra.specs.Plans.{Tables, names, Unary, select, project, distinct, group, sort, Binary, cross, semi, quant, fold, each, pair, Plan, leaf, one, two, nested, columns}
 use Rattle.algebra.specs.Places.{subtrees}
 use Rattle.algebra.specs.Names.{measured, unaryNew, binaryNew, introduced}
 use Rattle.algebra.specs.Refusals.{unaryInView, binaryInView, innerScope, inView, low, refusal}
-use Rattle.algebra.proofs.Lists.{every-true, unique-left, unique-right}
+use Rattle.algebra.proofs.Lists.{every-true, all-from, unique-left, unique-right}
 use Rattle.algebra.proofs.Cells.{eqb-sym}
 use Rattle.algebra.proofs.Refusals.{all-root, all-child, all-left, all-right, refusal-none, once-unique, in-view-one, in-view-two, low-rows}
 use Rattle.algebra.proofs.Readings.{In, in-left, in-right, in-cases, in-within, Apart, not-left, not-right, not-column, inner-apart}
@@ -20,11 +19,6 @@ use Rattle.algebra.proofs.Sound.{UnaryFine, BinaryFine, Fine}
 or-false : (a b : Bool) → not (a || b) ≡ true → a ≡ false
 or-false true b h = sym h
 or-false false b h = refl
-
--- a test that each number of a list passes
-all-in : (p : ℕ → Bool) (xs : List ℕ) → ((x : ℕ) → In x xs → p x ≡ true) → all p xs ≡ true
-all-in p [] h = refl
-all-in p (x ∷ xs) h = and-eq-true-iff (p x) (all p xs) .1 (h x (rw (eq-eqb x x refl)), all-in p xs (λ y k. h y (in-right y (x ∷ []) xs k)))
 
 module _ (T : Tables) where
   unary-fine : (scope : List ℕ) (u : Unary) (p : Plan) → unaryInView scope u (columns T p) ≡ true → low T p ≡ true → unique (unaryNew u ++ introduced T p) ≡ true → UnaryFine T u p
@@ -45,7 +39,7 @@ module _ (T : Tables) where
   unfolding columns introduced
   shown-in-view cs scope inner xs (itself f) v o k = tt
   shown-in-view cs scope inner xs (listed ids g) v o k =
-      all-in _ xs (λ x i. in-cases x cs (ids ++ scope) (λ j. elsewhere x (o x (in-left x cs scope j)))
+      all-from _ xs (λ x i. in-cases x cs (ids ++ scope) (λ j. elsewhere x (o x (in-left x cs scope j)))
       (in-cases x ids scope (λ j. rw j) (λ j. elsewhere x (o x (in-right x cs scope j)))) (k x i))
     where
       elsewhere : (x : ℕ) → member x (introduced T g) ≡ false → (member x ids || not (member x (columns T g))) ≡ true

@@ -13,7 +13,7 @@ use Rattle.algebra.specs.Plans.{Row, Env, Tables, Test, names, holds, Un
 use Rattle.algebra.specs.Names.{measured, unaryNew, binaryNew, introduced}
 use Rattle.algebra.specs.Refusals.{unaryInView, binaryInView, innerScope, inView, refusal}
 use Rattle.algebra.specs.Rules.{outside}
-use Rattle.algebra.proofs.Lists.{every-true, unique-left, unique-right}
+use Rattle.algebra.proofs.Lists.{every-true, all-member, unique-left, unique-right}
 use Rattle.algebra.proofs.Refusals.{refusal-once, refusal-in-view, once-unique, in-view-one, in-view-two}
 use Rattle.algebra.proofs.Free.{Agree, more, map-agree, bind-same, bind-outside, holds-agree, measure-agree}
 use Rattle.algebra.proofs.Sound.{local-agree, Singles, empty, single, singles-cut, singles-firsts}
@@ -80,13 +80,7 @@ in-cases {P} x (y ∷ xs) ys f g h =
     (elim (eqb x y) as (λ b. ((b || member x xs) ≡ true → P) → (b || member x (xs ++ ys)) ≡ true → P) [ true ↦ λ k l. k refl | false ↦ λ k l. in-cases x xs ys k g l ]) f h
 
 pub in-within : (x : ℕ) (xs ys : List ℕ) → within xs ys ≡ true → In x xs → In x ys
-in-within x [] ys h k = absurd (false≢true k)
-in-within x (y ∷ xs) ys h k =
-    let (u, v) = and-eq-true-iff (member y ys) (within xs ys) .0 h in
-    (elim (eqb x y) as (λ b. eqb x y ≡ b → (b || member x xs) ≡ true → In x ys) [
-      | true ↦ λ e l. subst (λ z. In z ys) (sym (eqb-true x y e)) u
-      | false ↦ λ e l. in-within x xs ys v l
-    ]) refl k
+in-within x xs ys h k = all-member (λ z. member z ys) xs h x k
 
 apart : (x : ℕ) (xs ys : List ℕ) → unique (xs ++ ys) ≡ true → In x xs → member x ys ≡ false
 apart x [] ys u h = absurd (false≢true h)

@@ -98,23 +98,23 @@ sequenced T e r h = sameRows (eval T e outside) (eval T (one (distinct (r ∷ []
 abbrev pub Sequence : Type 0
 Sequence = Plan → ℕ → Plan → Bool
 
--- ---- U1 and, with the mark, U2
+-- ---- U1 and, with the mark, U2, by the top of f without its Project
 abbrev pub toSemi : Tables → Bool → Test → Plan → Plan → Link → Option Plan
 toSemi T m t e g unlinked = none
 toSemi T m t e g (link a b c) = when (isEqual c && avoids T g e) (two (semi m a b (turned m t)) e g)
 
-abbrev pub u1 : Tables → Bool → Test → Plan → {f : Plan} → Top f → Option Plan
+abbrev pub u1 : Tables → Bool → Test → Plan → {p : Plan} → Top p → Option Plan
 u1 T m t e (selected s g) = toSemi T m t e g (linkOf (columns T e) (columns T g) s)
-u1 T m t e (other f) = none
+u1 T m t e (other p) = none
 
--- ---- U5
+-- ---- U5, by the same
 abbrev pub toPair : Tables → Aggregate → ℕ → Test → Plan → Plan → Link → Option Plan
 toPair T a n t e g unlinked = none
 toPair T a n t e g (link l r c) = when (avoids T g e) (two (pair a n l r c t) e g)
 
-abbrev pub u5 : Tables → Aggregate → ℕ → Test → Plan → {f : Plan} → Top f → Option Plan
+abbrev pub u5 : Tables → Aggregate → ℕ → Test → Plan → {p : Plan} → Top p → Option Plan
 u5 T a n t e (selected s g) = toPair T a n t e g (linkOf (columns T e) (columns T g) s)
-u5 T a n t e (other f) = none
+u5 T a n t e (other p) = none
 
 -- ---- U3 and, with the mark, U4
 -- the plan after: c the new id, the key l of e and r of h

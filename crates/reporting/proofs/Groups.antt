@@ -1,6 +1,6 @@
 -- Group: the keys given so far with their aggregates, and what the rest adds to them. Assumes nothing.
 use mathlib.Core.Path.{_≡_, refl, sym, ap, ap₂, _∙_}
-use mathlib.Core.Bool.{Bool, true, false, _&&_, _||_}
+use mathlib.Core.Bool.{Bool, true, false, _&&_}
 use mathlib.Core.List.{List, [], _∷_, _++_, map, append-assoc, append-nil}
 use Prim.Native.Nat.{ℕ, _+_, _*_, _-_, _≤_, _<_}
 use native.Mathlib.Nat.{add-zero, zero-mul}
@@ -12,15 +12,12 @@ use lib.Seq.{paste, paste-zero, paste-suc, length-paste, drop-cons}
 use borrow.Author.Tests.{eq-eqb, ne-eqb}
 use Rattle.algebra.specs.Lists.{same, any, firsts, flatMap}
 use Rattle.algebra.specs.Plans.{Row, Env, bind, emit, act}
+use Rattle.algebra.proofs.Lists.{any-map}
 use Rattle.reading.specs.Tree.{operatorOf, operatorBy}
 use Rattle.reading.specs.declared.plan.Node.{Node}
 use Rattle.reporting.specs.Rows.{chunk, Gives, acted, gathered, passing, aggregateIn}
 use Rattle.reporting.proofs.Chunks.{mono, turns, times-suc, next-row, chunk-snoc, chunk-same, paste-front, paste-row, paste-rest}
 use Rattle.reporting.proofs.Firsts.{beyond, beyond-none, beyond-seen, beyond-new}
-
-any-map : (p : Row → Bool) (f : Row → Row) (xs : List Row) → any p (map f xs) ≡ any (λ x. p (f x)) xs
-any-map p f [] = refl
-any-map p f (x ∷ xs) = ap (λ (b : Bool). p (f x) || b) (any-map p f xs)
 
 map-snoc : (f : Row → Row) (xs : List Row) (y : Row) → map f (xs ++ (y ∷ [])) ≡ map f xs ++ (f y ∷ [])
 map-snoc f [] y = refl

@@ -3,19 +3,19 @@ use Prim.Native.Nat.{ℕ, zero, suc, _+_, _*_, _≤_, _<_}
 use native.Mathlib.Omega.{arith}
 use native.Mathlib.Decide.{decLt, decLe}
 use mathlib.Core.Path.{_≡_, refl, sym, ap, _∙_}
-use mathlib.Core.Bool.{Bool, true, false, not, cond, or-true, and-eq-true-iff, false≢true}
+use mathlib.Core.Bool.{Bool, true, false, not, cond, and-eq-true-iff}
 use mathlib.Core.List.{List, [], _∷_, _++_}
 use lib.Dec.{eqb, leb}
 use lib.ListN.{length, take, drop, length-take, List·getD-eq-default}
 use lib.Seq.{getD-take, getD-drop}
-use native.Mathlib.Decide.{ℕ-discrete}
-use borrow.Author.Tests.{lt-ltb, eq-eqb, ne-eqb}
+use borrow.Author.Tests.{lt-ltb}
 use Rattle.algebra.specs.Lists.{if_then_else_, all, member, minus}
 use Rattle.algebra.specs.Cells.{sum, least, greatest, count, over}
 use Rattle.algebra.specs.Plans.{Tables, formNames, columns, nested}
 use Rattle.algebra.specs.Places.{size}
 use Rattle.algebra.specs.Names.{measured, binaryNames, innerFree, unaryFree, free}
 use Rattle.algebra.specs.Refusals.{byte}
+use Rattle.algebra.proofs.Lists.{all-member, all-from}
 use Rattle.reading.specs.Bytes.{byteAt, u32At}
 use Rattle.reading.specs.TableSet.{wordOf}
 use Rattle.reading.specs.Plan.{nodePart, testOf, nodeOf, nodeAt, nodesOf}
@@ -48,20 +48,8 @@ all-minus (x ∷ xs) ys a = let (b, c) = and-eq-true-iff (byte x) (all byte xs) 
     by false b r = rw (b, r)
 
 -- only the members count
-all-member : (xs : List ℕ) → all byte xs ≡ true → (k : ℕ) → member k xs ≡ true → byte k ≡ true
-all-member [] a k m = absurd (false≢true m)
-all-member (x ∷ xs) a k m = let (b, c) = and-eq-true-iff (byte x) (all byte xs) .0 a in by b (all-member xs c k) (ℕ-discrete k x) m
-  where
-    by : byte x ≡ true → (member k xs ≡ true → byte k ≡ true) → Dec (k ≡ x) → member k (x ∷ xs) ≡ true → byte k ≡ true
-    by b r (yes e) m = ap byte e ∙ b
-    by b r (no e) m = r (rw (ne-eqb k x e) at m)
-
-all-from : (ys : List ℕ) → ((k : ℕ) → member k ys ≡ true → byte k ≡ true) → all byte ys ≡ true
-all-from [] h = refl
-all-from (y ∷ ys) h = rw (h y (rw (eq-eqb y y refl)), all-from ys (λ k m. h k (rw (m, or-true))))
-
 all-same : {xs ys : List ℕ} → SameMembers xs ys → all byte xs ≡ true → all byte ys ≡ true
-all-same {xs} {ys} s a = all-from ys (λ k m. all-member xs a k (s .at k ∙ m))
+all-same {xs} {ys} s a = all-from byte ys (λ k m. all-member byte xs a k (s .at k ∙ m))
 
 -- ---- the names of a node that was read
 
