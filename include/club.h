@@ -21,7 +21,7 @@
  *    8  node count                          16  scratch below the need; tested before 15
  *
  * A refused call leaves its outputs as they were. Unwritten output keeps its elements. Scratch is untouched after 1 to 14 and all zero
- * after every other end. The need is at most 8,392,704 cells: 4,096, and for each of up to 64 nodes its row bound times its columns.
+ * after every other end. The need is at most 8,392,704 cells: 4,096, and for each of up to 64 nodes no more than its row bound times its columns.
  */
 #ifndef CLUB_H
 #define CLUB_H

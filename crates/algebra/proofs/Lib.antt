@@ -10,6 +10,7 @@ pub mod Between
 pub mod Sound
 pub mod Bounds
 pub mod Refusals
+pub mod Needs
 pub mod Readings
 pub mod Fine
 pub mod Steps

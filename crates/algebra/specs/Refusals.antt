@@ -1,7 +1,7 @@
 -- The row bound, the need, and the refusals 8 to 14 of a plan as a tree. Definitions only.
 -- See docs/DEFINITION.md, "The kinds", "Columns and ids" and "Bound and need".
 -- The reading call meets 11 to 14 by `refusal`, and the unnestings ask the plan after them to pass by the same definition.
-use Prim.Native.Nat.{ℕ, _+_, _*_, max}
+use Prim.Native.Nat.{ℕ, _+_, _*_, min, max}
 use mathlib.Core.Bool.{Bool, true, false, not, _&&_}
 use mathlib.Core.List.{List, [], _∷_, _++_, map}
 use lib.Dec.{eqb, ltb, leb}
@@ -9,7 +9,7 @@ use lib.ListN.{length}
 use Rattle.algebra.specs.Lists.{if_then_else_, every, all, total, member, unique, within}
 use Rattle.algebra.specs.Cells.{Aggregate, count, over, inRange}
 use Rattle.algebra.specs.Plans.{Tables, Form, always, columnsOf, numberOf, Test, test, names, Leaf, unit, scan, Unary, select, project, distinct, group, sort, Binary, cross, semi, quant, fold, each, pair, Plan, leaf, one, two, nested, columns}
-use Rattle.algebra.specs.Places.{Operator, leafNode, unaryNode, binaryNode, size, flatten, subtrees}
+use Rattle.algebra.specs.Places.{Operator, leafNode, unaryNode, binaryNode, root, size, flatten, subtrees}
 use Rattle.algebra.specs.Names.{measured, introduced}
 
 -- ---- the row bound and the need
@@ -34,13 +34,44 @@ bound T (two b e f) = bound T e * perRow b (bound T f)
 abbrev pub width : Tables → Plan → ℕ
 width T p = length (columns T p)
 
--- the cells that a node's rows can take
-abbrev pub region : Tables → Plan → ℕ
-region T p = bound T p * width T p
+-- Whether a node's rows take a region of scratch. Select, Project, Semi, Anti, Some and Every have none: they pass the rows of their first
+-- child on.
+abbrev pub unaryRegion : Unary → Bool
+unaryRegion (select t) = false
+unaryRegion (project ids) = false
+unaryRegion (distinct ids) = true
+unaryRegion (group g n l r c t) = true
+unaryRegion (sort d ids) = true
 
--- over all nodes, the sum of bound × columns, plus 4,096 cells of scratch
+abbrev pub binaryRegion : Binary → Bool
+binaryRegion cross = true
+binaryRegion (semi m l r t) = false
+binaryRegion (quant m t) = false
+binaryRegion (fold g n t) = true
+binaryRegion each = true
+binaryRegion (pair g n l r c t) = true
+
+abbrev pub hasRegion : Operator → Bool
+hasRegion (leafNode x) = true
+hasRegion (unaryNode u) = unaryRegion u
+hasRegion (binaryNode b) = binaryRegion b
+
+-- the rows that a node of bound b counts: all that its region has room for; without a region one, and none where the bound is 0
+abbrev pub countedRows : Bool → ℕ → ℕ
+countedRows true b = b
+countedRows false b = min 1 b
+
+-- the cells that a node counts
+abbrev pub share : Tables → Plan → ℕ
+share T p = countedRows (hasRegion (root p)) (bound T p) * width T p
+
+-- a tree's part of scratch: the cells that all its nodes count
+abbrev pub part : Tables → Plan → ℕ
+part T p = total (map (share T) (subtrees p))
+
+-- the whole plan's part, plus 4,096 cells of scratch
 unfoldable pub need : Tables → Plan → ℕ
-need T p = total (map (region T) (subtrees p)) + 4096
+need T p = part T p + 4096
 
 -- ---- 9: what a field can hold
 abbrev pub byte : ℕ → Bool

@@ -12,8 +12,9 @@ use Rattle.algebra.specs.Lists.{if_then_else_, all, total}
 use Rattle.algebra.specs.Plans.{Tables, Plan}
 use Rattle.algebra.specs.Places.{flatten, subtrees}
 use Rattle.algebra.specs.Names.{introduced}
-use Rattle.algebra.specs.Refusals.{refusal, need, region, bound, width, found, once, inView, narrow, low}
+use Rattle.algebra.specs.Refusals.{refusal, need, share, bound, width, found, once, inView, narrow, low}
 use Rattle.algebra.proofs.Places.{subtrees-length}
+use Rattle.algebra.proofs.Needs.{share-most}
 use Rattle.algebra.proofs.Refusals.{refusal-none, refusal-0, refusal-11, refusal-12, refusal-13, refusal-14}
 use Rattle.reading.specs.Bytes.{startsWith, allBelow}
 use Rattle.reading.specs.TableSet.{tableMark, sizeAllowed, cellBytes, cellsOf, cellsAllowed, readTable, readFrom, readSet, afterTable, amountOf, tablesOf}
@@ -248,14 +249,14 @@ accepted set plan tables nodes cells e = by-set (readSet set) refl
     by-set (Holds t) s = by-plan t s (readPlan plan) refl
     by-set (Refused k) s = refused-accepted k _ _ _ (sym (check-set set plan k s) ∙ e)
 
--- each region has at most 4,096 rows of 32 cells
-total-most : (T : Tables) (ps : List Plan) → all (narrow T) ps ≡ true → all (low T) ps ≡ true → total (map (region T) ps) ≤ length ps * 131072
+-- each node counts at most 4,096 rows of 32 cells
+total-most : (T : Tables) (ps : List Plan) → all (narrow T) ps ≡ true → all (low T) ps ≡ true → total (map (share T) ps) ≤ length ps * 131072
 total-most T [] h k = omega arith
 total-most T (p ∷ ps) h k =
     let (a, b) = and-eq-true-iff (narrow T p) (all (narrow T) ps) .0 h in
     let (c, d) = and-eq-true-iff (low T p) (all (low T) ps) .0 k in
     let m : bound T p * width T p ≤ 4096 * 32 = mul-le-mul (leb-true _ _ c) (leb-true _ _ a) in
-    omega (arith, total-most T ps b d)
+    omega (arith, share-most T p, total-most T ps b d)
 
 -- the need of an accepted plan is at most 64 × 4,096 × 32 + 4,096 cells
 pub need-most : (set plan : List ℕ) (tables nodes cells : ℕ) → Acceptance set plan tables nodes cells → cells ≤ 8392704

@@ -1,13 +1,14 @@
 -- The nodes of a whole plan are its tree's, in pre-order: what is asked of every node or subtree is asked of every place. Assumes nothing.
-use Prim.Native.Nat.{ℕ, zero, suc, _+_, _≤_, _<_}
+use Prim.Native.Nat.{ℕ, zero, suc, _+_, _-_, _*_, _≤_, _<_}
 use mathlib.Core.Bool.{Bool, true, false, _&&_, and-true}
 use mathlib.Core.Path.{_≡_, refl, ap, ap₂, sym, _∙_}
 use mathlib.Core.List.{List, [], _∷_, _++_, map, map-append, map-map, append-assoc, append-nil}
 use native.Mathlib.Omega.{arith}
+use native.Mathlib.Decide.{decLe}
 use native.Mathlib.Numerals.{add-one}
 use lib.ListN.{length, length-map}
 use borrow.Author.Tests.{eqb-true, eq-eqb}
-use Rattle.algebra.specs.Lists.{all, flatMap, total, upward}
+use Rattle.algebra.specs.Lists.{all, flatMap, upward}
 use Rattle.algebra.specs.Plans.{Tables, leafColumns, Plan, leaf, one, two}
 use Rattle.algebra.specs.Places.{Operator, leafNode, unaryNode, binaryNode, root, size, flatten, subtrees}
 use Rattle.algebra.specs.Names.{unaryNew, introduced}
@@ -18,7 +19,7 @@ use Rattle.reading.specs.Bytes.{allBelow}
 use Rattle.reading.specs.Plan.{nodesOf}
 use Rattle.reading.specs.Tree.{operatorAt, planAt, planOf, wholeTree}
 use Rattle.reading.specs.Nodes.{operatorNew, idsOf}
-use Rattle.reading.proofs.Trees.{firstTree, secondTree, plan-case, plan-grown}
+use Rattle.reading.proofs.Trees.{firstTree, secondTree, plan-past, plan-case, plan-grown}
 
 -- ---- numbers upward, and lists of what they give
 
@@ -89,6 +90,23 @@ subtrees-under plan (suc d) i h g =
 pub subtrees-at : (plan : List ℕ) (i : ℕ) → i + size (planAt plan i) ≤ nodesOf plan → subtrees (planAt plan i) ≡ map (planAt plan) (upward (size (planAt plan i)) i)
 subtrees-at plan i h = subtrees-under plan (nodesOf plan) i (omega arith) h
 
+size-under : (plan : List ℕ) (d i : ℕ) → nodesOf plan ≤ i + d → size (planAt plan i) ≤ 2 * (nodesOf plan - i) + 1
+unfolding size
+size-under plan zero i h = rw (plan-past plan i (omega arith)) (omega arith)
+size-under plan (suc d) i h = elim (decLe (nodesOf plan) i) [
+  | yes l ↦ rw (plan-past plan i l) (omega arith)
+  | no l ↦ plan-case plan i (λ op p. size p ≤ 2 * (nodesOf plan - i) + 1)
+      (λ x. omega arith)
+      (λ u. omega (arith, size-under plan d (i + 1) (omega arith)))
+      (λ b. omega (arith, size-under plan d (i + 1) (omega arith), size-under plan d (i + 1 + size (firstTree plan i)) (omega arith)))
+      (omega arith)
+]
+
+-- The tree at a place has few nodes, also where the plan is no whole tree: each node of the plan stands in it once at most, and a Unit
+-- stands for each child that is missing.
+pub size-most : (plan : List ℕ) (i : ℕ) → size (planAt plan i) ≤ 2 * nodesOf plan + 1
+size-most plan i = omega (arith, size-under plan (nodesOf plan) i (omega arith))
+
 -- ---- of a whole plan
 
 -- the ids that a tree introduces, node by node
@@ -120,9 +138,6 @@ module _ (plan : List ℕ) (whole : wholeTree plan ≡ true) where
   pub whole-introduced : (T : Tables) → introduced T (planOf plan) ≡ idsOf T plan (nodesOf plan) 0
   unfolding idsOf
   whole-introduced T = introduced-nodes T (planOf plan) ∙ (ap (flatMap (operatorNew T)) whole-flatten ∙ flatMap-map (operatorNew T) (operatorAt plan) (upward (nodesOf plan) 0))
-
-  pub whole-total : (f : Plan → ℕ) → total (map f (subtrees (planOf plan))) ≡ total (map (λ i. f (planAt plan i)) (upward (nodesOf plan) 0))
-  whole-total f = ap total (ap (map f) whole-subtrees ∙ map-map f (planAt plan) (upward (nodesOf plan) 0))
 
 -- ---- a plan whose nodes are those of a tree is whole, and that tree is its own
 

@@ -31,9 +31,6 @@ module _ (r n most : ℕ) (e : r ≡ min n (suc most)) where
   pub capped-exact : leb n most ≡ true → r ≡ n
   capped-exact t = let h = leb-true n most t in omega arith
 
-  pub capped-most : leb n most ≡ true → r ≤ most
-  capped-most t = let h = leb-true n most t in omega arith
-
 -- `of p` is the tree's number, and `step` makes a node's of its children's. Up to the cap, children's numbers count only up to the cap.
 pub record Made (of : Plan → ℕ) (step : Operator → ℕ → ℕ → ℕ) (cap : ℕ) : Type 0 where
   pub leaf-made : (x : Leaf) (v w : ℕ) → step (leafNode x) v w ≡ of (leaf x)

@@ -1,15 +1,15 @@
 -- What one node does, apart from its children's trees. The contracts of helpers speak of these; the definitions of whole plans are the algebra's.
-use Prim.Native.Nat.{ℕ, zero, suc, _+_, _*_}
+use Prim.Native.Nat.{ℕ, zero, suc, _+_, _*_, min}
 use mathlib.Core.Bool.{Bool, true, false}
 use mathlib.Core.Path.{_≡_}
-use mathlib.Core.List.{List, [], _∷_, _++_}
+use mathlib.Core.List.{List, [], _∷_, _++_, map}
 use lib.ListN.{length}
 use lib.Dec.{eqb}
-use Rattle.algebra.specs.Lists.{if_then_else_, flatMap, upward}
+use Rattle.algebra.specs.Lists.{if_then_else_, flatMap, total, upward}
 use Rattle.algebra.specs.Plans.{Tables, Unary, select, project, distinct, group, sort, formNames, Binary, cross, semi, quant, fold, each, pair, Plan, leaf, one, two, leafColumns, unaryColumns, binaryColumns, columns, nested}
-use Rattle.algebra.specs.Places.{Operator, leafNode, unaryNode, binaryNode}
+use Rattle.algebra.specs.Places.{Operator, leafNode, unaryNode, binaryNode, root, subtrees}
 use Rattle.algebra.specs.Names.{measured, unaryNew, binaryNew}
-use Rattle.algebra.specs.Refusals.{leafBound, perRow, unaryInView, binaryInView, found, inView}
+use Rattle.algebra.specs.Refusals.{leafBound, perRow, bound, width, hasRegion, countedRows, unaryInView, binaryInView, found, inView}
 use Rattle.reading.specs.Bytes.{allBelow, byteAt}
 use Rattle.reading.specs.Flags.{Flags}
 use Rattle.reading.specs.Plan.{nodesOf}
@@ -54,6 +54,14 @@ abbrev pub operatorBound : Tables → Operator → ℕ → ℕ → ℕ
 operatorBound T (leafNode l) x y = leafBound T l
 operatorBound T (unaryNode u) x y = x
 operatorBound T (binaryNode b) x y = x * perRow b y
+
+-- the cells that a node counts in the need, its bound and its columns known up to a cap
+abbrev pub cappedShare : Tables → Plan → ℕ
+cappedShare T p = countedRows (hasRegion (root p)) (min (bound T p) 4097) * min (width T p) 33
+
+-- and those of a whole tree
+abbrev pub cappedPart : Tables → Plan → ℕ
+cappedPart T p = total (map (cappedShare T) (subtrees p))
 
 -- the ids that it introduces
 abbrev pub operatorNew : Tables → Operator → List ℕ

@@ -1,33 +1,29 @@
 -- What each arm of `eval` shows, of plain values: no record of a place in the code is named here. Assumes nothing.
 use mathlib.Core.Path.{_≡_, refl, sym, ap, _∙_, subst}
-use mathlib.Core.Bool.{true, false}
-use mathlib.Core.List.{List, _++_}
-use Prim.Native.Nat.{ℕ, _+_, _*_, _-_, _≤_}
-use native.Mathlib.Nat.{le-trans, mul-le-mul}
+use mathlib.Core.Bool.{Bool, true, false}
+use mathlib.Core.List.{List}
+use Prim.Native.Nat.{ℕ, _+_, _*_, _-_, _≤_, _<_, min}
+use native.Mathlib.Nat.{le-trans, zero-mul, one-mul, mul-le-mul}
 use native.Mathlib.Omega.{arith}
-use lib.ListN.{length, take, drop, length-drop}
-use lib.Seq.{drop-at, length-take-le, take-append-le, take-take}
-use borrow.Rule.Slice.PartMut.{putMid, postOf, take-put}
-use Rattle.algebra.specs.Lists.{flatMap}
+use native.Mathlib.Decide.{decLe}
+use lib.ListN.{length, take, drop}
+use lib.Seq.{take-take}
+use borrow.Rule.Slice.PartMut.{putMid, take-put}
+use Rattle.algebra.specs.Lists.{if_then_else_, flatMap}
 use Rattle.algebra.specs.Plans.{Row, Env, Tables, unit, Plan, leaf, bind, columns, eval}
 use Rattle.algebra.specs.Places.{Operator}
-use Rattle.algebra.specs.Refusals.{width, bound, region}
+use Rattle.algebra.specs.Refusals.{width, bound, hasRegion, part}
+use Rattle.algebra.proofs.Needs.{extent}
+use Rattle.reading.specs.TableSet.{tablesOf}
+use Rattle.reading.specs.Tree.{planAt}
 use Rattle.reading.specs.Nodes.{operatorNested}
-use Rattle.reporting.specs.Rows.{chunk, Gives, acted, actedColumns, emitted, emittedColumns, emittedMost}
-use Rattle.reporting.specs.Evaluation.{Ready, nestedRow, plainRow, leafGiven, leafWidth, leafMost}
-use Rattle.reporting.proofs.Chunks.{mono, chunk-same, chunk-drop-same, row-same}
-use Rattle.reporting.proofs.Soundness.{sound-bound}
-use Rattle.reporting.proofs.Children.{region-within, most-mono, Childless, First, Single, Double}
-
--- ---- a part to the end that was lent and is back
-
-pub lent-rows : (k j : ℕ) (cells ys : List ℕ) (m w : ℕ) → k ≤ length cells → m * w ≤ length ys → chunk m w (drop k (putMid k j cells ys)) ≡ chunk m w ys
-lent-rows k j cells ys m w h f =
-    ap (chunk m w) (drop-at (take k cells) (ys ++ postOf k j cells) k (length-take-le k cells h))
-    ∙ chunk-same m w (ys ++ postOf k j cells) ys (take-append-le (m * w) ys (postOf k j cells) f)
-
-pub tail-length : (k : ℕ) (cells : List ℕ) → length (take (length cells - k) (drop k cells)) ≡ length cells - k
-tail-length k cells = length-take-le (length cells - k) (drop k cells) (rw length-drop (omega arith))
+use Rattle.reporting.specs.Rows.{chunk, rowAt, rowsFrom, envOf, Gives, acted, actedColumns, emitted, emittedColumns, emittedMost}
+use Rattle.reporting.specs.Written.{Emitted}
+use Rattle.reporting.specs.Evaluation.{columnsAt, Sound, Ready, regionOf, UnaryRoom, StepRoom, LoopRoom, NestedStep, nestedRow, plainRow, leafGiven, leafWidth, leafMost}
+use Rattle.reporting.proofs.Chunks.{mono, chunk-drop-same, row-same}
+use Rattle.reporting.proofs.Lent.{lent-rows}
+use Rattle.reporting.proofs.Soundness.{sound-bound, sound-within}
+use Rattle.reporting.proofs.Children.{most-mono, Childless, First, Single, Double}
 
 -- the ids at the front of a buffer, as a part of it has them
 pub ids-part : {ids : List ℕ} (w : ℕ) (buffer : List ℕ) → take w buffer ≡ ids → take (w - 0) buffer ≡ ids
@@ -39,9 +35,13 @@ take-less n k xs ys h e = sym (take-take n k xs h) ∙ ap (take n) e ∙ take-ta
 gives-as : {rows rows′ : List Row} {w w′ m m′ r : ℕ} {cells : List ℕ} → Gives rows w m r cells → rows ≡ rows′ → w ≡ w′ → m ≤ m′ → Gives rows′ w′ m′ r cells
 gives-as {r = r} {cells = cells} g e f h = record { is = ap (λ (x : ℕ). chunk r x cells) (sym f) ∙ g .is ∙ e; few = le-trans (g .few) h }
 
--- the rows of a tree that can be evaluated lie in its cells
+-- the rows of a tree lie in its part
+pub rows-inside : {T : Tables} {p : Plan} (m : ℕ) → Sound T p → m ≤ bound T p → m * width T p ≤ part T p
+rows-inside {T} {p} m s h = le-trans (mono m (bound T p) (width T p) h) (sound-within s)
+
+-- and those of a tree that can be evaluated in its cells
 pub rows-fit : {T : Tables} {p : Plan} {len words : ℕ} (m : ℕ) → Ready T p len words → m ≤ bound T p → m * width T p ≤ len
-rows-fit {T} {p} m r h = le-trans (mono m (bound T p) (width T p) h) (le-trans (region-within T p) (r .room))
+rows-fit m r h = le-trans (rows-inside m (r .sound) h) (r .room)
 
 -- a tree's rows, which were left in a part
 pub record Kid (T : Tables) (p : Plan) (env : Env) (m : ℕ) (ys : List ℕ) : Type 0 where
@@ -61,31 +61,54 @@ past-arm T P env cells e =
 
 module _ {T : Tables} {op : Operator} {P : Plan} (L : Childless T op P) where
   pub leaf-room : {len words : ℕ} → Ready T P len words → leafMost T op * leafWidth T op ≤ len
-  leaf-room R = let e : region T P ≡ leafMost T op * leafWidth T op = λ i. L .most i * L .wide i in omega (arith, region-within T P, R .room)
+  leaf-room R = let e : extent T P ≡ leafMost T op * leafWidth T op = λ i. L .most i * L .wide i in omega (arith, sound-within (R .sound), R .room)
 
   pub leaf-arm : (env : Env) {r : ℕ} {cells : List ℕ} → Gives (leafGiven T op) (leafWidth T op) (leafMost T op) r cells → Gives (eval T P env) (width T P) (bound T P) r cells
   leaf-arm env g = gives-as g (sym (L .rows env)) (sym (L .wide)) (omega (arith, L .most))
 
+-- ---- the region: room for more rows is no smaller
+region-mono : (op : Operator) (j k w : ℕ) → j ≤ k → regionOf op j w ≤ regionOf op k w
+region-mono op j k w h = elim (hasRegion op) as (λ b. (if b then j * w else 0) ≤ (if b then k * w else 0)) [ true ↦ mono j k w h | false ↦ omega arith ]
+
 -- ---- the first child
-module _ {T : Tables} {P p : Plan} {len words own : ℕ} (R : Ready T P len words) (F : First T P p) (o : own ≡ region T P) where
+module _ {T : Tables} {op : Operator} {P p : Plan} {len words own : ℕ} (R : Ready T P len words) (F : First T op P p) (o : own ≡ regionOf op (bound T P) (width T P)) where
   pub own-fits : own ≤ len
   own-fits = omega (arith, R .room, F .room)
 
   pub child-ready : (n : ℕ) → n ≡ len - own → Ready T p n words
   child-ready n e = record { sound = F .sound (R .sound); room = omega (arith, R .room, F .room); bound = R .bound }
 
-  pub rows-inside : (m : ℕ) → m ≤ bound T p → own + m * width T p ≤ len
-  rows-inside m h = omega (arith, own-fits, rows-fit m (child-ready (len - own) refl) h)
-
 left-rows : {T : Tables} {p : Plan} {env : Env} {m : ℕ} {ys : List ℕ} (own j : ℕ) (cells : List ℕ) → own ≤ length cells → Kid T p env m ys → chunk m (width T p) (drop own (putMid own j cells ys)) ≡ eval T p env
 left-rows {T} {p} {m = m} {ys = ys} own j cells h C = lent-rows own j cells ys m (width T p) h (C .lies) ∙ C .gives .is
 
 -- ---- a node with one child
 module _ {T : Tables} {op : Operator} {P p : Plan} (S : Single T op P p) where
-  pub acted-room : (own m : ℕ) → own ≡ region T P → m ≤ bound T p → m * length (actedColumns op (columns T p)) ≤ own
-  acted-room own m o h =
-      let e : region T P ≡ bound T p * length (actedColumns op (columns T p)) = λ i. S .most i * length (S .ids i) in
-      omega (arith, mono m (bound T p) (length (actedColumns op (columns T p))) h)
+  -- where the node has a region it has room for all rows; where it has none they are no wider than the child's, and one more has room behind these
+  module _ {len words own : ℕ} (m : ℕ) (R : Ready T P len words) (F : First T op P p) (o : own ≡ regionOf op (bound T P) (width T P)) (h : m ≤ bound T p) where
+    abbrev wo : ℕ
+    wo = length (actedColumns op (columns T p))
+
+    at : own ≡ regionOf op (bound T p) wo
+    at = o ∙ (λ i. regionOf op (S .most i) (length (S .ids i)))
+
+    ends-by : (b : Bool) → hasRegion op ≡ b → m * wo ≤ own + m * width T p
+    ends-by true e = let a : own ≡ bound T p * wo = rw e at at in omega (arith, mono m (bound T p) wo h)
+    ends-by false e = let k : m * wo ≤ m * width T p = mul-le-mul (omega arith) (S .slim (R .sound) e) in omega arith
+
+    behind-by : (b : Bool) → hasRegion op ≡ b → own < m * wo → own + m * width T p + wo ≤ len
+    behind-by true e l = let a : own ≡ bound T p * wo = rw e at at in absurd (omega (arith, mono m (bound T p) wo h))
+    behind-by false e l =
+        let none : own ≡ 0 = rw e at at in
+        let some : 1 ≤ m = elim (decLe 1 m) [ yes k ↦ k | no k ↦ absurd (omega (arith, mono m 0 wo (omega arith), zero-mul wo)) ] in
+        let one : min 1 (bound T P) ≡ 1 = omega (arith, S .most) in
+        let row : min 1 (bound T P) * width T P ≡ wo = ap (λ (k : ℕ). k * width T P) one ∙ one-mul (width T P) ∙ ap length (S .ids) in
+        omega (arith, S .row e, R .room, rows-inside m (F .sound (R .sound)) h)
+
+    pub unary-room : UnaryRoom op (columns T p) own m len
+    unary-room = record {
+      region = omega (arith, at, region-mono op m (bound T p) wo h);
+      cuts = record { ends = ends-by (hasRegion op) refl; inside = omega (arith, F .room, R .room, rows-inside m (F .sound (R .sound)) h); behind = behind-by (hasRegion op) refl };
+    }
 
   pub unary-arm : {env : Env} {m r : ℕ} {ys cells′ : List ℕ} (own j : ℕ) (cells : List ℕ) → own ≤ length cells → Kid T p env m ys
       → Gives (acted op (columns T p) env (chunk m (width T p) (drop own (putMid own j cells ys)))) (length (actedColumns op (columns T p))) m r cells′
@@ -99,26 +122,28 @@ module _ {T : Tables} {op : Operator} {P p q : Plan} (D : Double T op P p q) whe
   pub emitted-few : (m k : ℕ) → m ≤ bound T p → k ≤ bound T q → m * emittedMost op k ≤ bound T P
   emitted-few m k h f = subst (λ (x : ℕ). m * emittedMost op k ≤ x) (sym (D .most)) (mul-le-mul h (most-mono op k (bound T q) f))
 
-  pub emitted-room : (own m k : ℕ) → own ≡ region T P → m ≤ bound T p → k ≤ bound T q → m * emittedMost op k * length (emittedColumns op (columns T p) (columns T q)) ≤ own
-  emitted-room own m k o h f =
-      let e : region T P ≡ bound T P * length (emittedColumns op (columns T p) (columns T q)) = ap (λ (cs : List ℕ). bound T P * length cs) (D .ids) in
-      omega (arith, mono (m * emittedMost op k) (bound T P) (length (emittedColumns op (columns T p) (columns T q))) (emitted-few m k h f))
-
-  module _ {len words own behind : ℕ} (R : Ready T P len words) (o : own ≡ region T P) (b : behind ≡ own + region T p) where
+  module _ {len words own behind : ℕ} (R : Ready T P len words) (F : First T op P p) (o : own ≡ regionOf op (bound T P) (width T P)) (b : behind ≡ own + part T p) where
     pub behind-fits : behind ≤ len
-    behind-fits = omega (arith, R .room, D .room, region-within T p)
+    behind-fits = omega (arith, R .room, D .room)
 
     pub inner-ready : (n : ℕ) → n ≡ len - behind → Ready T q n words
-    inner-ready n e = record { sound = D .sound (R .sound); room = omega (arith, R .room, D .room, region-within T p); bound = R .bound }
-
-    pub left-inside : (m : ℕ) → m ≤ bound T p → own + m * width T p ≤ behind
-    left-inside m h = omega (arith, mono m (bound T p) (width T p) h)
+    inner-ready n e = record { sound = D .sound (R .sound); room = omega (arith, R .room, D .room); bound = R .bound }
 
     pub right-inside : (k : ℕ) → k ≤ bound T q → behind + k * width T q ≤ len
     right-inside k h = omega (arith, behind-fits, rows-fit k (inner-ready (len - behind) refl) h)
 
     pub few-of : (m k : ℕ) → m ≤ bound T p → k ≤ bound T q → m * emittedMost op k ≤ 4096
     few-of m k h f = le-trans (emitted-few m k h f) (sound-bound (R .sound))
+
+    -- the region has room for what the left rows give, and they end before the second child's part
+    pub loop-room : (m k : ℕ) → m ≤ bound T p → k ≤ bound T q → LoopRoom op (columns T p) (columns T q) k own m behind
+    loop-room m k h f = record { region = omega (arith, at, region-mono op (m * emittedMost op k) (bound T P) wo (emitted-few m k h f)); apart = omega (arith, rows-inside m (F .sound (R .sound)) h) }
+      where
+        wo : ℕ
+        wo = length (emittedColumns op (columns T p) (columns T q))
+
+        at : own ≡ regionOf op (bound T P) wo
+        at = o ∙ ap (λ (cs : List ℕ). regionOf op (bound T P) (length cs)) (D .ids)
 
   pub nested-arm : {env : Env} {m r : ℕ} {ys cells′ : List ℕ} (own j : ℕ) (cells : List ℕ) → operatorNested op ≡ true → own ≤ length cells → Kid T p env m ys
       → Gives (flatMap (nestedRow T op (columns T p) q env) (chunk m (width T p) (drop own (putMid own j cells ys)))) (length (emittedColumns op (columns T p) (columns T q))) (m * emittedMost op (bound T q)) r cells′
@@ -141,27 +166,37 @@ module _ {T : Tables} {op : Operator} {P p q : Plan} (D : Double T op P p q) whe
       gives-as g ((λ z. flatMap (plainRow op (columns T p) (columns T q) (s z) env) (l z)) ∙ sym (D .plain n env)) (sym (ap length (D .ids)))
       (emitted-few m k (C .gives .few) (E .gives .few))
 
+-- the room for a row's rows is enough for fewer right rows
+pub step-less : {op : Operator} {cs ds : List ℕ} {k src dst behind : ℕ} (j : ℕ) → StepRoom op cs ds k src dst behind → j ≤ k → StepRoom op cs ds j src dst behind
+step-less {op} {cs} {ds} {k} j r h = record {
+  below = omega (arith, r .below, region-mono op (emittedMost op j) (emittedMost op k) (length (emittedColumns op cs ds)) (most-mono op j k h));
+  apart = r .apart;
+}
+
 -- ---- one left row of a nested node: the inner plan's rows are in the part that was lent, and what is before it stayed
-module _ (cells ys ids : List ℕ) (own src behind : ℕ) (below : own ≤ src) (left : src + length ids ≤ behind) (fits : behind ≤ length cells) where
+module _ (cells ys ids : List ℕ) (src behind : ℕ) (left : src + length ids ≤ behind) (fits : behind ≤ length cells) where
   abbrev Lent : List ℕ
   Lent = putMid behind (length cells - behind) cells ys
 
   front : take behind Lent ≡ take behind cells
   front = take-put behind (length cells - behind) cells ys fits
 
-  pub step-arm : {T : Tables} {q : Plan} {inside : Env} {k r : ℕ} {rest : List ℕ} (op : Operator) (jds : List ℕ) (env : Env) → jds ≡ columns T q → inside ≡ bind ids (take (length ids) (drop src cells)) env → Kid T q inside k ys
-      → Gives (emitted op jds (take (length ids) (drop src Lent)) inside (chunk k (length jds) (drop behind Lent))) (length (emittedColumns op ids jds)) (emittedMost op k) r rest
-      → Gives (nestedRow T op ids q env (take (length ids) (drop src cells))) (length (emittedColumns op ids jds)) (emittedMost op (bound T q)) r rest
-  step-arm {T} {q} {inside} {k} op jds env ej ee C g =
-      let row : take (length ids) (drop src Lent) ≡ take (length ids) (drop src cells) = row-same src (length ids) behind Lent cells left front in
-      let inner : chunk k (length jds) (drop behind Lent) ≡ eval T q inside = ap (λ (ds : List ℕ). chunk k (length ds) (drop behind Lent)) ej ∙ left-rows behind (length cells - behind) cells fits C in
-      gives-as g ((λ z. emitted op (ej z) (row z) inside (inner z)) ∙ ap (λ (x : Env). emitted op (columns T q) (take (length ids) (drop src cells)) x (eval T q x)) ee) refl
-      (most-mono op k (bound T q) (C .gives .few))
-
-  pub step-frame : (dst : ℕ) (cells′ : List ℕ) → dst ≤ own → (take dst cells′ ≡ take dst Lent) × (drop own cells′ ≡ drop own Lent)
-      → (take dst cells′ ≡ take dst cells) × (take (behind - own) (drop own cells′) ≡ take (behind - own) (drop own cells))
-  step-frame dst cells′ h frame =
-      let sum : own + (behind - own) ≡ behind = omega arith in (
-        frame .0 ∙ sym (take-take dst behind Lent (omega arith)) ∙ ap (take dst) front ∙ take-take dst behind cells (omega arith),
-        ap (take (behind - own)) (frame .1) ∙ row-same own (behind - own) behind Lent cells (omega arith) front,
-      )
+  pub step-arm : {set plan : List ℕ} {inner : ℕ} {inside : Env} {k r dst : ℕ} {exit : List ℕ} (op : Operator) (jds words : List ℕ) → jds ≡ columnsAt set plan inner
+      → inside ≡ bind ids (rowAt src (length ids) cells) (envOf words) → Kid (tablesOf set) (planAt plan inner) inside k ys → dst ≤ src
+      → Emitted (emitted op jds (rowAt src (length ids) Lent) inside (rowsFrom behind k (length jds) Lent)) (length (emittedColumns op ids jds)) (emittedMost op k) r dst (src + length ids) Lent exit
+      → NestedStep set plan inner op ids words src dst behind cells r exit
+  step-arm {set} {plan} {inner} {inside} {k} {dst = dst} {exit = exit} op jds words ej ee C below g =
+      let T : Tables = tablesOf set in
+      let q : Plan = planAt plan inner in
+      let end : ℕ = src + length ids in
+      let row : rowAt src (length ids) Lent ≡ rowAt src (length ids) cells = row-same src (length ids) behind Lent cells left front in
+      let rows : rowsFrom behind k (length jds) Lent ≡ eval T q inside = ap (λ (ds : List ℕ). chunk k (length ds) (drop behind Lent)) ej ∙ left-rows behind (length cells - behind) cells fits C in
+      record {
+        gives =
+            gives-as (g .gives)
+            ((λ z. emitted op (ej z) (row z) inside (rows z)) ∙ ap (λ (x : Env). emitted op (columns T q) (rowAt src (length ids) cells) x (eval T q x)) ee)
+            (ap (λ (ds : List ℕ). length (emittedColumns op ids ds)) ej)
+            (most-mono op k (bound T q) (C .gives .few));
+        before = g .before ∙ take-less dst behind Lent cells (omega arith) front;
+        between = ap (take (behind - end)) (g .behind) ∙ row-same end (behind - end) behind Lent cells (omega arith) front;
+      }

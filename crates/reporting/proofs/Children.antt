@@ -1,17 +1,19 @@
 -- What the tree at a place is made of, by the number of its node's children. Assumes nothing.
-use Prim.Native.Nat.{ℕ, _+_, _*_, _≤_, _<_}
-use mathlib.Core.Bool.{Bool, true, false, not, _&&_}
+use Prim.Native.Nat.{ℕ, _+_, _*_, _≤_, _<_, min}
+use mathlib.Core.Bool.{Bool, true, false, not, _&&_, true≢false}
 use mathlib.Core.Logic.{_⊎_, inl, inr, ⊎-elim}
 use mathlib.Core.Path.{_≡_, refl, sym, ap, subst}
-use mathlib.Core.List.{List, [], _∷_, _++_, map}
+use mathlib.Core.List.{List, [], _∷_, _++_}
 use native.Mathlib.Omega.{arith}
 use lib.Dec.{ltb}
 use lib.ListN.{length, length-append}
 use borrow.Author.Tests.{le-ltb}
-use Rattle.algebra.specs.Lists.{flatMap, total}
-use Rattle.algebra.specs.Plans.{Env, Tables, Leaf, Unary, Binary, cross, semi, quant, fold, each, pair, Plan, leaf, one, two, bind, columns, nested, around, emit, joined, eval}
-use Rattle.algebra.specs.Places.{Operator, leafNode, unaryNode, binaryNode, size, subtrees}
-use Rattle.algebra.specs.Refusals.{width, bound, region}
+use Rattle.algebra.specs.Lists.{if_then_else_, flatMap}
+use Rattle.algebra.specs.Plans.{Env, Tables, Leaf, Unary, select, project, distinct, group, sort, Binary, cross, semi, quant, fold, each, pair, Plan, leaf, one, two, bind, unaryColumns, columns, nested, around, emit, joined, eval}
+use Rattle.algebra.specs.Places.{Operator, leafNode, unaryNode, binaryNode, size}
+use Rattle.algebra.specs.Refusals.{width, bound, unaryRegion, binaryRegion, hasRegion, countedRows, part}
+use Rattle.algebra.proofs.Refusals.{in-view-one}
+use Rattle.algebra.proofs.Needs.{part-one, part-two, list-narrow}
 use Rattle.reading.specs.Plan.{nodeAt, nodesOf}
 use Rattle.reading.specs.Tree.{operatorBy, operatorOf, planAt}
 use Rattle.reading.specs.Nodes.{arity, operatorNested}
@@ -19,21 +21,13 @@ use Rattle.reading.specs.declared.plan.Node.{Node}
 use Rattle.reading.proofs.Operators.{by-kind, kind-above}
 use Rattle.reading.proofs.Trees.{plan-case, firstTree, secondTree}
 use Rattle.reporting.specs.Rows.{acted, actedColumns, emitted, emittedColumns, emittedMost}
-use Rattle.reporting.specs.Evaluation.{Sound, regions, nestedRow, plainRow, leafGiven, leafWidth, leafMost}
+use Rattle.reporting.specs.Evaluation.{Sound, regionOf, nestedRow, plainRow, leafGiven, leafWidth, leafMost}
 use Rattle.reporting.proofs.Soundness.{sound-child, sound-left, sound-right}
 
--- ---- the cells that a tree takes
-
-total-append : {A : Type 0} (f : A → ℕ) (xs ys : List A) → total (map f (xs ++ ys)) ≡ total (map f xs) + total (map f ys)
-total-append f [] ys = omega arith
-total-append f (x ∷ xs) ys = omega (arith, total-append f xs ys)
-
--- a node's own rows lie in the tree's cells
-pub region-within : (T : Tables) (p : Plan) → region T p ≤ regions T p
-unfolding subtrees
-region-within T (leaf x) = omega arith
-region-within T (one u p) = omega arith
-region-within T (two b e f) = omega arith
+-- ---- a node's region, where it has one, is what the node counts
+region-share : (r : Bool) (b w : ℕ) → (if r then b * w else 0) ≤ countedRows r b * w
+region-share true b w = omega arith
+region-share false b w = omega arith
 
 -- ---- by the number of children
 
@@ -43,16 +37,18 @@ pub record Childless (T : Tables) (op : Operator) (P : Plan) : Type 0 where
   pub most : bound T P ≡ leafMost T op
 
 -- p the first child
-pub record First (T : Tables) (P p : Plan) : Type 0 where
+pub record First (T : Tables) (op : Operator) (P p : Plan) : Type 0 where
   pub sound : Sound T P → Sound T p
-  pub room : region T P + regions T p ≤ regions T P
+  pub room : regionOf op (bound T P) (width T P) + part T p ≤ part T P
   pub smaller : size p < size P
 
--- .. and the only one
+-- .. and the only one; without a region the node's rows are no wider than the child's, and there is room for one of them besides its part
 pub record Single (T : Tables) (op : Operator) (P p : Plan) : Type 0 where
   pub rows : (env : Env) → eval T P env ≡ acted op (columns T p) env (eval T p env)
   pub ids : columns T P ≡ actedColumns op (columns T p)
   pub most : bound T P ≡ bound T p
+  pub slim : Sound T P → hasRegion op ≡ false → length (actedColumns op (columns T p)) ≤ width T p
+  pub row : hasRegion op ≡ false → min 1 (bound T P) * width T P + part T p ≤ part T P
 
 -- .. or the first of two; the second is run for each left row where the node is nested
 pub record Double (T : Tables) (op : Operator) (P p q : Plan) : Type 0 where
@@ -61,7 +57,7 @@ pub record Double (T : Tables) (op : Operator) (P p q : Plan) : Type 0 where
   pub ids : columns T P ≡ emittedColumns op (columns T p) (columns T q)
   pub most : bound T P ≡ bound T p * emittedMost op (bound T q)
   pub sound : Sound T P → Sound T q
-  pub room : region T P + regions T p + regions T q ≤ regions T P
+  pub room : regionOf op (bound T P) (width T P) + part T p + part T q ≤ part T P
   pub smaller : size q < size P
 
 module _ (T : Tables) where
@@ -69,26 +65,39 @@ module _ (T : Tables) where
   unfolding eval columns bound
   childless x = record { rows = λ env. refl; wide = refl; most = refl }
 
-  first-one : (u : Unary) (p : Plan) → First T (one u p) p
-  unfolding subtrees size
-  first-one u p = record { sound = sound-child; room = omega arith; smaller = omega arith }
+  first-one : (u : Unary) (p : Plan) → First T (unaryNode u) (one u p) p
+  unfolding size
+  first-one u p = record {
+    sound = sound-child;
+    room = omega (arith, region-share (unaryRegion u) (bound T (one u p)) (width T (one u p)), part-one T u p);
+    smaller = omega arith;
+  }
 
-  first-two : (b : Binary) (e f : Plan) → First T (two b e f) e
-  unfolding subtrees size
-  first-two b e f = record { sound = sound-left; room = omega (arith, total-append (region T) (subtrees e) (subtrees f)); smaller = omega arith }
+  two-room : (b : Binary) (e f : Plan) → regionOf (binaryNode b) (bound T (two b e f)) (width T (two b e f)) + part T e + part T f ≤ part T (two b e f)
+  two-room b e f = omega (arith, region-share (binaryRegion b) (bound T (two b e f)) (width T (two b e f)), part-two T b e f)
+
+  first-two : (b : Binary) (e f : Plan) → First T (binaryNode b) (two b e f) e
+  unfolding size
+  first-two b e f = record { sound = sound-left; room = omega (arith, two-room b e f); smaller = omega arith }
+
+  slim-one : (u : Unary) (p : Plan) → Sound T (one u p) → unaryRegion u ≡ false → length (unaryColumns u (columns T p)) ≤ width T p
+  slim-one (select t) p s e = omega arith
+  slim-one (project ids) p s e = list-narrow T ids (columns T p) (in-view-one T (s .scope) (project ids) p (s .inViewAll) .0)
+  slim-one (distinct ids) p s e = absurd (true≢false e)
+  slim-one (group g n l r c t) p s e = absurd (true≢false e)
+  slim-one (sort d ids) p s e = absurd (true≢false e)
+
+  row-one : (u : Unary) (p : Plan) → unaryRegion u ≡ false → min 1 (bound T (one u p)) * width T (one u p) + part T p ≤ part T (one u p)
+  row-one u p e = let s = ap (λ r. countedRows r (bound T (one u p)) * width T (one u p)) e in omega (arith, part-one T u p)
 
   pub single : (u : Unary) (p : Plan) → Single T (unaryNode u) (one u p) p
   unfolding eval columns bound acted
-  single u p = record { rows = λ env. refl; ids = refl; most = refl }
+  single u p = record { rows = λ env. refl; ids = refl; most = refl; slim = slim-one u p; row = row-one u p }
 
   double-rows : (b : Binary) (e f : Plan) (m : Bool) (env : Env) → nested b ≡ m
       → eval T (two b e f) env ≡ flatMap (λ l. emit b (columns T f) l (bind (columns T e) l env) (eval T f (around m env (bind (columns T e) l env)))) (eval T e env)
   unfolding eval joined
   double-rows b e f m env h = ap (λ (z : Bool). flatMap (λ l. emit b (columns T f) l (bind (columns T e) l env) (eval T f (around z env (bind (columns T e) l env)))) (eval T e env)) h
-
-  pub double-room : (b : Binary) (e f : Plan) → region T (two b e f) + regions T e + regions T f ≤ regions T (two b e f)
-  unfolding subtrees
-  double-room b e f = omega (arith, total-append (region T) (subtrees e) (subtrees f))
 
   double : (b : Binary) (e f : Plan) → Double T (binaryNode b) (two b e f) e f
   unfolding columns bound emitted size
@@ -98,7 +107,7 @@ module _ (T : Tables) where
     ids = refl;
     most = refl;
     sound = sound-right;
-    room = double-room b e f;
+    room = two-room b e f;
     smaller = omega arith;
   }
 
@@ -109,10 +118,10 @@ module _ (T : Tables) where
         subst (λ (n : Node). arity (operatorOf n) ≡ 0 → Childless T (operatorOf n) (planAt plan at)) (sym e)
         (plan-case plan at (λ op p. arity op ≡ 0 → Childless T op p) (λ x k. childless x) (λ u k. absurd (omega arith)) (λ b k. absurd (omega arith)) h) z
 
-    pub first-at : (arity (operatorOf node) ≡ 0 → ⊥) → First T (planAt plan at) (planAt plan (at + 1))
+    pub first-at : (arity (operatorOf node) ≡ 0 → ⊥) → First T (operatorOf node) (planAt plan at) (planAt plan (at + 1))
     first-at z =
-        subst (λ (n : Node). (arity (operatorOf n) ≡ 0 → ⊥) → First T (planAt plan at) (planAt plan (at + 1))) (sym e)
-        (plan-case plan at (λ op p. (arity op ≡ 0 → ⊥) → First T p (planAt plan (at + 1))) (λ x k. absurd (k refl)) (λ u k. first-one u (firstTree plan at))
+        subst (λ (n : Node). (arity (operatorOf n) ≡ 0 → ⊥) → First T (operatorOf n) (planAt plan at) (planAt plan (at + 1))) (sym e)
+        (plan-case plan at (λ op p. (arity op ≡ 0 → ⊥) → First T op p (planAt plan (at + 1))) (λ x k. absurd (k refl)) (λ u k. first-one u (firstTree plan at))
         (λ b k. first-two b (firstTree plan at) (secondTree plan at)) h) z
 
     pub single-at : arity (operatorOf node) ≡ 1 → Single T (operatorOf node) (planAt plan at) (planAt plan (at + 1))
@@ -131,6 +140,17 @@ pub two-of : (op : Operator) → (arity op ≡ 0 → ⊥) → (arity op ≡ 1 �
 two-of (leafNode x) a b = absurd (a refl)
 two-of (unaryNode u) a b = absurd (b refl)
 two-of (binaryNode x) a b = refl
+
+-- a node with two children and no region gives of each left row that row or nothing
+pub keeps-rows : (op : Operator) → arity op ≡ 2 → hasRegion op ≡ false → (cs ds : List ℕ) (k : ℕ) → (emittedMost op k ≡ 1) × (length (emittedColumns op cs ds) ≡ length cs)
+keeps-rows (leafNode x) a e cs ds k = absurd (omega arith)
+keeps-rows (unaryNode u) a e cs ds k = absurd (omega arith)
+keeps-rows (binaryNode cross) a e cs ds k = absurd (true≢false e)
+keeps-rows (binaryNode (semi m l r t)) a e cs ds k = (refl, refl)
+keeps-rows (binaryNode (quant m t)) a e cs ds k = (refl, refl)
+keeps-rows (binaryNode (fold g n t)) a e cs ds k = absurd (true≢false e)
+keeps-rows (binaryNode each) a e cs ds k = absurd (true≢false e)
+keeps-rows (binaryNode (pair g n l r c t)) a e cs ds k = absurd (true≢false e)
 
 -- more right rows give no fewer rows
 pub most-mono : (op : Operator) (j k : ℕ) → j ≤ k → emittedMost op j ≤ emittedMost op k

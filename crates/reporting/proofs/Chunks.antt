@@ -120,18 +120,17 @@ paste-all n d s e f =
 pub copied : (n : ℕ) (d s cells : List ℕ) → cells ≡ paste d 0 s n → n ≤ length s → take n cells ≡ take n s
 copied n d s cells e h = ap (take n) e ∙ ap (λ (j : ℕ). take j (paste d 0 s n)) (sym (zero-add n)) ∙ take-paste d 0 s n (omega arith) h
 
--- the rows behind the one at hand, where the cells from `own` on agree
-pub left-same : (m w own i src : ℕ) (xs ys : List ℕ) → i < m → src ≡ own + i * w → take (m * w) (drop own xs) ≡ take (m * w) (drop own ys) → chunk (m - (i + 1)) w (drop (src + w) xs) ≡ chunk (m - (i + 1)) w (drop (src + w) ys)
-left-same m w own i src xs ys h s e =
-    let k : ℕ = (i + 1) * w in
+-- the rows behind the one at hand, where the cells behind it agree up to a place past the rows
+pub rows-left : (m w own i src behind : ℕ) (xs ys : List ℕ) → i < m → src ≡ own + i * w → own + m * w ≤ behind
+    → take (behind - (src + w)) (drop (src + w) xs) ≡ take (behind - (src + w)) (drop (src + w) ys)
+    → chunk (m - (i + 1)) w (drop (src + w) xs) ≡ chunk (m - (i + 1)) w (drop (src + w) ys)
+rows-left m w own i src behind xs ys h s below e =
+    let k : ℕ = m - (i + 1) in
+    let all : (i + 1) * w + k * w ≤ m * w = subst (λ (x : ℕ). x ≤ m * w) (add-mul (i + 1) k w) (mono (i + 1 + k) m w (omega arith)) in
     let t : (i + 1) * w ≡ w + i * w = ap (λ (x : ℕ). x * w) (add-one i) ∙ times-suc i w in
-    let at : own + k ≡ src + w = omega arith in
-    let fit : k + (m - (i + 1)) * w ≤ m * w = subst (λ (x : ℕ). x ≤ m * w) (add-mul (i + 1) (m - (i + 1)) w) (mono (i + 1 + (m - (i + 1))) m w (omega arith)) in
-    ap (λ (x : ℕ). chunk (m - (i + 1)) w (drop x xs)) (sym at)
-    ∙ ap (chunk (m - (i + 1)) w) (sym (drop-drop k own xs))
-    ∙ chunk-drop-same k (m - (i + 1)) w (m * w) (drop own xs) (drop own ys) fit e
-    ∙ ap (chunk (m - (i + 1)) w) (drop-drop k own ys)
-    ∙ ap (λ (x : ℕ). chunk (m - (i + 1)) w (drop x ys)) at
+    let n : ℕ = behind - (src + w) in
+    chunk-same k w (drop (src + w) xs) (drop (src + w) ys)
+    (sym (take-take (k * w) n (drop (src + w) xs) (omega arith)) ∙ ap (take (k * w)) e ∙ take-take (k * w) n (drop (src + w) ys) (omega arith))
 
 -- one row, none
 pub gives-one : (rows : List Row) (w : ℕ) (row : Row) (cells : List ℕ) → rows ≡ row ∷ [] → take w cells ≡ row → Gives rows w 1 1 cells

@@ -9,6 +9,7 @@ pub mod Envs
 pub mod Building
 pub mod Tallies
 pub mod Passing
+pub mod Lent
 pub mod Emits
 pub mod Acts
 pub mod Soundness

@@ -1,5 +1,6 @@
 -- What a node with one child gives, by its kind: the widths, and the kinds with a list. Assumes nothing.
 use Prim.Native.Nat.{ℕ}
+use mathlib.Core.Bool.{true}
 use mathlib.Core.Path.{_≡_, refl, sym, ap, _∙_, subst}
 use mathlib.Core.List.{List, [], _∷_, map}
 use native.Mathlib.Omega.{arith}
@@ -7,6 +8,7 @@ use lib.Dec.{eqb}
 use lib.ListN.{length}
 use Rattle.algebra.specs.Lists.{firsts}
 use Rattle.algebra.specs.Plans.{Row, Env, cut, act}
+use Rattle.algebra.specs.Refusals.{hasRegion}
 use Rattle.reading.specs.declared.plan.Node.{Node}
 use Rattle.reading.specs.Tree.{operatorBy, operatorOf, nodeList}
 use Rattle.reading.specs.Nodes.{arity}
@@ -28,10 +30,6 @@ module _ (node : Node) (cs : List ℕ) where
   abbrev columnsBy : ℕ → List ℕ
   columnsBy k = actedColumns (operatorBy k node) cs
 
-  pub select-columns : node .kind ≡ 2 → columnsBy (node .kind) ≡ cs
-  unfolding operatorBy
-  select-columns e = ap columnsBy e
-
   pub group-columns : node .kind ≡ 13 → columnsBy (node .kind) ≡ node .left ∷ node .id ∷ []
   unfolding operatorBy
   group-columns e = ap columnsBy e
@@ -39,6 +37,15 @@ module _ (node : Node) (cs : List ℕ) where
   pub sort-columns : node .kind ≡ 14 → columnsBy (node .kind) ≡ cs
   unfolding operatorBy
   sort-columns e = ap columnsBy e
+
+  -- Group and Sort have a region, which stands before the rows
+  pub group-region : node .kind ≡ 13 → hasRegion (operatorOf node) ≡ true
+  unfolding operatorBy
+  group-region e = ap (λ k. hasRegion (operatorBy k node)) e
+
+  pub sort-region : node .kind ≡ 14 → hasRegion (operatorOf node) ≡ true
+  unfolding operatorBy
+  sort-region e = ap (λ k. hasRegion (operatorBy k node)) e
 
   -- Project and Distinct
   pub list-columns : arity (operatorOf node) ≡ 1 → (node .kind ≡ 2 → ⊥) → (node .kind ≡ 13 → ⊥) → (node .kind ≡ 14 → ⊥) → columnsBy (node .kind) ≡ nodeList node

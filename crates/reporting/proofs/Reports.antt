@@ -2,7 +2,7 @@
 use Prim.Native.Nat.{ℕ, zero, suc, _*_, _+_, _≤_, _<_, min}
 use mathlib.Core.Bool.{true, and-eq-true-iff}
 use mathlib.Core.Path.{_≡_, refl, sym, ap, ap₂, _∙_}
-use mathlib.Core.List.{List, _++_, map, map-append}
+use mathlib.Core.List.{List, [], _++_, map, map-append}
 use native.Mathlib.Omega.{arith}
 use native.Mathlib.Nat.{zero-mul, mul-le-mul, le-trans}
 use lib.IntN.{ℤ}
@@ -10,19 +10,19 @@ use lib.ListN.{length, getD, take, drop, replicate, length-map}
 use lib.Seq.{take-add, length-take-le}
 use borrow.Author.Tests.{leb-true, lt-ltb, le-ltb}
 use Rattle.algebra.specs.Lists.{all, unique, flatMap}
-use Rattle.algebra.specs.Plans.{Env, Tables, Plan, leaf, one, two, eval}
-use Rattle.algebra.specs.Places.{subtrees}
+use Rattle.algebra.specs.Plans.{Env, Tables, Plan, eval}
 use Rattle.algebra.specs.Names.{introduced}
-use Rattle.algebra.specs.Refusals.{byte, need, region, bound, width, narrow, low, once}
+use Rattle.algebra.specs.Refusals.{byte, need, bound, width, narrow, low, once}
 use Rattle.algebra.specs.Rules.{outside}
 use Rattle.algebra.proofs.Refusals.{Unrefused, refusal-none, all-root, low-rows}
+use Rattle.algebra.proofs.Needs.{extent, rows-within}
 use Rattle.reading.specs.TableSet.{tablesOf, readSet}
 use Rattle.reading.specs.Tree.{planOf, wholeTree}
 use Rattle.reading.specs.Check.{orNext, setNumber, planRefusal, inputRefusal, answer, checkOf}
 use Rattle.reading.specs.declared.input.Checked.the-variants.{Accepted, Refused}
 use Rattle.reading.proofs.PlanBytes.{plan-passed}
 use Rattle.reporting.specs.Rows.{chunk, envOf, Gives}
-use Rattle.reporting.specs.Evaluation.{regions, Ready}
+use Rattle.reporting.specs.Evaluation.{Ready}
 use Rattle.reporting.specs.Report.{reportRows, rowCount, columnCount, codeOf, reportCodes, reportNumber, countAfter, scratchAfter, Reported}
 use Rattle.reporting.specs.declared.answer.Report.{Report}
 use Rattle.reporting.proofs.Chunks.{times-suc, length-chunk}
@@ -131,13 +131,19 @@ pub whole-input : (set plan : List ℕ) → inputRefusal set plan ≡ 0 → whol
 unfolding inputRefusal
 whole-input set plan a = plan-passed set plan (or-next (setNumber (readSet set)) (planRefusal set plan) a .1) .whole
 
--- the need has 4,096 cells more than the regions
+-- the need has 4,096 cells more than the plan's part
 pub ready : (set plan : List ℕ) (cells : ℕ) → inputRefusal set plan ≡ 0 → need (tablesOf set) (planOf plan) ≤ cells + 4096 → Ready (tablesOf set) (planOf plan) cells 256
 unfolding need once
 ready set plan cells a h =
     let u = unrefused set plan a in
     record {
-      sound = record { narrowAll = u .narrowAll; lowAll = u .lowAll; small = and-eq-true-iff (unique (introduced (tablesOf set) (planOf plan))) (all byte (introduced (tablesOf set) (planOf plan))) .0 (u .introducedOnce) .1 };
+      sound = record {
+        narrowAll = u .narrowAll;
+        lowAll = u .lowAll;
+        small = and-eq-true-iff (unique (introduced (tablesOf set) (planOf plan))) (all byte (introduced (tablesOf set) (planOf plan))) .0 (u .introducedOnce) .1;
+        scope = [];
+        inViewAll = u .inViewAll;
+      };
       room = omega arith;
       bound = refl;
     }
@@ -160,12 +166,6 @@ zero-at (suc n) (suc x) = zero-at n x
 pub zeros-outside : envOf (replicate 256 0) ≡ outside
 zeros-outside i x = zero-at 256 x i
 
-root-region : (T : Tables) (p : Plan) → region T p ≤ regions T p
-unfolding subtrees
-root-region T (leaf x) = omega arith
-root-region T (one u p) = omega arith
-root-region T (two b e f) = omega arith
-
 pub record Evaluated (set plan cells : List ℕ) (room rows columns : ℕ) : Type 0 where
   pub rowsAre : rows ≡ rowCount set plan
   pub columnsAre : columns ≡ columnCount set plan
@@ -186,14 +186,14 @@ evaluated set plan cells room rows columns a h g c =
     let few : bound T p ≤ 4096 = leb-true _ _ (all-root (low T) p (u .lowAll)) in
     let w : columns ≡ width T p = omega arith in
     let is : chunk rows (width T p) cells ≡ reportRows set plan = g .is ∙ ap (λ (env : Env). eval T p env) zeros-outside in
-    let low : rows * columns ≤ region T p = mul-le-mul (g .few) (omega arith) in
+    let low : rows * columns ≤ extent T p = mul-le-mul (g .few) (omega arith) in
     let n : rows ≡ rowCount set plan = sym (length-chunk rows (width T p) cells) ∙ ap length is in
     record {
       rowsAre = n;
       columnsAre = w;
       cellsAre = ap₂ _*_ n w;
       most = le-trans low (mul-le-mul few thin);
-      inside = omega (arith, root-region T p);
+      inside = omega (arith, rows-within T [] p (u .inViewAll));
       codes = sym (flat-chunk codeOf rows columns cells) ∙ ap (λ (n : ℕ). flatMap (map codeOf) (chunk rows n cells)) w ∙ ap (flatMap (map codeOf)) is;
     }
 

@@ -15,9 +15,10 @@ use Rattle.algebra.specs.Lists.{flatMap}
 use Rattle.algebra.specs.Plans.{Row, Env, Tables, unit, Unary, distinct, Binary, Plan, leaf, one, two, columns, eval}
 use Rattle.algebra.specs.Places.{Operator, unaryNode, size, subtrees}
 use Rattle.algebra.specs.Names.{introduced}
-use Rattle.algebra.specs.Refusals.{bound, width, region, need}
+use Rattle.algebra.specs.Refusals.{bound, width, inView, part, need}
 use Rattle.algebra.specs.Rules.{outside}
 use Rattle.algebra.proofs.Places.{size-positive}
+use Rattle.algebra.proofs.Needs.{extent, part-one, part-two}
 use Rattle.reading.specs.TableSet.{tablesOf}
 use Rattle.reading.specs.Plan.{nodesOf}
 use Rattle.reading.specs.Tree.{planAt, planOf, wholeTree}
@@ -27,13 +28,13 @@ use Rattle.reading.specs.declared.input.Checked.the-variants.{Refused}
 use Rattle.reading.proofs.Trees.{plan-past, plan-case, firstTree, secondTree}
 use Rattle.reading.proofs.Places.{whole-size}
 use Rattle.reporting.specs.Rows.{chunk, envOf, Gives, acted, actedColumns}
-use Rattle.reporting.specs.Evaluation.{Sound, regions, Ready}
+use Rattle.reporting.specs.Evaluation.{Sound, Ready, UnaryRoom}
 use Rattle.reporting.specs.Report.{scratchNumber, treeCells, rowsNumber, rowsLeft, RowsGiven}
 use Rattle.reporting.specs.declared.answer.Report.{Report}
 use Rattle.reporting.proofs.Chunks.{times-suc, length-chunk}
-use Rattle.reporting.proofs.Soundness.{sound-child, sound-left, sound-right, sound-width, sound-bound}
-use Rattle.reporting.proofs.Emits.{tail-part}
-use Rattle.reporting.proofs.Children.{region-within, double-room, Single, single}
+use Rattle.reporting.proofs.Soundness.{sound-child, sound-left, sound-right, sound-width, sound-bound, sound-within}
+use Rattle.reporting.proofs.Lent.{tail-part}
+use Rattle.reporting.proofs.Children.{Single, single}
 use Rattle.reporting.proofs.Arms.{kid-of, unary-arm}
 use Rattle.reporting.proofs.Reports.{answer-refused, or-next, whole-input, zeros-outside, ready}
 
@@ -62,25 +63,24 @@ module _ (plan : List ℕ) (Q : Plan → Type 0) (child : (u : Unary) (p : Plan)
 
 -- ---- the tree at any place of an accepted plan can be evaluated in the scratch that the plan needs
 
--- one that is sound and whose regions fit
+-- one that is sound and whose part fits
 record Fitting (T : Tables) (cells : ℕ) (p : Plan) : Type 0 where
   good : Sound T p
-  fits : regions T p ≤ cells
+  fits : part T p ≤ cells
 
 module _ (T : Tables) (cells : ℕ) where
   fitting-child : (u : Unary) (p : Plan) → Fitting T cells (one u p) → Fitting T cells p
-  unfolding subtrees
-  fitting-child u p f = record { good = sound-child (f .good); fits = omega (arith, f .fits) }
+  fitting-child u p f = record { good = sound-child (f .good); fits = omega (arith, f .fits, part-one T u p) }
 
   fitting-left : (b : Binary) (e f : Plan) → Fitting T cells (two b e f) → Fitting T cells e
-  fitting-left b e f g = record { good = sound-left (g .good); fits = omega (arith, g .fits, double-room T b e f) }
+  fitting-left b e f g = record { good = sound-left (g .good); fits = omega (arith, g .fits, part-two T b e f) }
 
   fitting-right : (b : Binary) (e f : Plan) → Fitting T cells (two b e f) → Fitting T cells f
-  fitting-right b e f g = record { good = sound-right (g .good); fits = omega (arith, g .fits, double-room T b e f) }
+  fitting-right b e f g = record { good = sound-right (g .good); fits = omega (arith, g .fits, part-two T b e f) }
 
   unit-fitting : Fitting T cells (leaf unit)
-  unfolding subtrees columns bound introduced
-  unit-fitting = record { good = record { narrowAll = refl; lowAll = refl; small = refl }; fits = omega arith }
+  unfolding subtrees columns bound introduced inView
+  unit-fitting = record { good = record { narrowAll = refl; lowAll = refl; small = refl; scope = []; inViewAll = refl }; fits = omega arith }
 
 pub ready-at : (set plan : List ℕ) (cells : ℕ) → inputRefusal set plan ≡ 0 → need (tablesOf set) (planOf plan) ≤ cells + 4096 → (i : ℕ) → Ready (tablesOf set) (planAt plan i) cells 256
 ready-at set plan cells a h i =
@@ -94,7 +94,7 @@ ready-at set plan cells a h i =
     ] in
     record { sound = f .good; room = f .fits; bound = refl }
 
--- what the need has besides the regions
+-- what the need has besides the plan's part
 pub spare : (T : Tables) (p : Plan) → 4096 ≤ need T p
 unfolding need
 spare T p = omega arith
@@ -114,11 +114,11 @@ pub record EvaluatedAt (T : Tables) (p : Plan) (cells : List ℕ) (room rows col
   pub inside : rows * columns ≤ room
   pub front : take (rows * columns) cells ≡ flatMap (λ (row : Row). row) (eval T p outside)
 
-pub evaluated-at : (T : Tables) (p : Plan) (cells : List ℕ) (room rows columns : ℕ) → width T p ≤ 32 → bound T p ≤ 4096 → region T p ≤ room
+pub evaluated-at : (T : Tables) (p : Plan) (cells : List ℕ) (room rows columns : ℕ) → width T p ≤ 32 → bound T p ≤ 4096 → extent T p ≤ room
     → Gives (eval T p (envOf (replicate 256 0))) (width T p) (bound T p) rows cells → columns ≡ width T p → EvaluatedAt T p cells room rows columns
 evaluated-at T p cells room rows columns thin few fits g w =
     let is : chunk rows (width T p) cells ≡ eval T p outside = g .is ∙ ap (λ (env : Env). eval T p env) zeros-outside in
-    let low : rows * columns ≤ region T p = mul-le-mul (g .few) (omega arith) in
+    let low : rows * columns ≤ extent T p = mul-le-mul (g .few) (omega arith) in
     record {
       rowsAre = sym (length-chunk rows (width T p) cells) ∙ ap length is;
       columnsAre = w;
@@ -132,7 +132,7 @@ pub tree-evaluated : (T : Tables) (p : Plan) (cells : List ℕ) (room rows colum
     → columns ≡ min (width T p) 33 → EvaluatedAt T p cells room rows columns
 tree-evaluated T p cells room rows columns r g c =
     let thin : width T p ≤ 32 = sound-width (r .sound) in
-    evaluated-at T p cells room rows columns thin (sound-bound (r .sound)) (omega (arith, region-within T p, r .room)) g (omega arith)
+    evaluated-at T p cells room rows columns thin (sound-bound (r .sound)) (omega (arith, sound-within (r .sound), r .room)) g (omega arith)
 
 -- .. of a Distinct of one column over it, whose own rows were left from cell 4,096 on
 module _ (T : Tables) (p : Plan) (id : ℕ) (op : Operator) (e : op ≡ unaryNode (distinct (id ∷ []))) where
@@ -145,8 +145,9 @@ module _ (T : Tables) (p : Plan) (id : ℕ) (op : Operator) (e : op ≡ unaryNod
   pub keys-arity : arity op ≡ 1
   keys-arity = ap arity e
 
-  pub keys-room : (m : ℕ) → m ≤ 4096 → m * length (actedColumns op (columns T p)) ≤ 4096
-  keys-room m h = rw e (omega arith)
+  -- the keys, one cell each, stand before the tree's rows
+  pub keys-room : (m cells : ℕ) → m ≤ 4096 → 4096 + m * width T p ≤ cells → UnaryRoom op (columns T p) 4096 m cells
+  keys-room m cells h k = rw e (record { region = omega arith; cuts = record { ends = omega arith; inside = k; behind = λ l. absurd (omega arith) } })
 
   pub keys-evaluated : (scratch ys cells : List ℕ) (m rows j : ℕ) → 4096 ≤ length scratch → Ready T p (length ys) 256
       → Gives (eval T p (envOf (replicate 256 0))) (width T p) (bound T p) m ys

@@ -1,21 +1,24 @@
 -- A table's cells, row by row, are its rows. Assumes nothing.
-use Prim.Native.Nat.{ℕ, zero, suc, _+_, _*_, _≤_, _<_}
+use Prim.Native.Nat.{ℕ, zero, suc, _+_, _-_, _*_, _/_, _≤_, _<_}
 use mathlib.Core.Path.{_≡_, refl, sym, ap, ap₂, subst, _∙_}
 use mathlib.Core.List.{List, [], _∷_, _++_, map, map-append}
 use native.Mathlib.Nat.{add-zero, zero-add, suc-add, add-suc, mul-suc, mul-zero}
 use native.Mathlib.Numerals.{add-one}
 use native.Mathlib.Omega.{arith}
-use lib.ListN.{length, take, drop, set, length-map}
-use lib.Seq.{take-at, drop-at, take-take, take-nil, take-suc-set}
+use borrow.Author.Tests.{lt-ltb, le-ltb}
+use lib.ListN.{length, take, drop, set, replicate, length-map}
+use lib.Seq.{take-at, drop-at, take-take, take-nil, take-add, take-suc-set}
 use Rattle.algebra.specs.Lists.{upward}
 use Rattle.algebra.specs.Plans.{Row}
-use Rattle.reading.specs.TableSet.{columnsOf, rowsOf, cellsOf, cellAt, tableFrom, tableRows, tablesOf}
+use Rattle.reading.specs.Bytes.{u32At}
+use Rattle.reading.specs.TableSet.{columnsOf, rowsOf, cellsOf, wordOf, cellAt, tableFrom, tableRows, tablesOf}
 use Rattle.reading.specs.Tree.{operatorBy, operatorOf}
 use Rattle.reading.specs.declared.plan.Node.{Node}
 use Rattle.reading.proofs.BoundLaws.{length-rows}
 use Rattle.reading.proofs.Operators.{by-kind, kind-above}
 use Rattle.reading.proofs.Places.{upward-append, upward-more, upward-length}
 use Rattle.reporting.specs.Rows.{chunk, Gives}
+use Rattle.reporting.specs.Written.{Written}
 use Rattle.reporting.specs.Evaluation.{leafGiven, leafWidth, leafMost}
 use Rattle.reporting.proofs.Chunks.{times-suc}
 
@@ -32,6 +35,30 @@ next-cell f cells i e h =
     rw add-one (take-suc-set cells i (f i) h)
     ∙ ap (λ (l : List ℕ). l ++ (f i ∷ [])) e
     ∙ sym (ap (map f) (upward-more i 0) ∙ map-append f (upward i 0) ((0 + i) ∷ []) ∙ rw z)
+
+-- a cell that the table has is the word of its bytes
+pub cell-word : (from : List ℕ) (i : ℕ) → i < length from / 4 → wordOf (u32At from (4 * i)) ≡ cellAt from i
+cell-word from i h = simp (lt-ltb _ _ h)
+
+-- past the table's last cell every cell is blank
+blank-cells : (from : List ℕ) (n k : ℕ) → ((j : ℕ) → k ≤ j → j < k + n → length from / 4 ≤ j) → replicate n 0 ≡ map (cellAt from) (upward n k)
+blank-cells from zero k h = refl
+blank-cells from (suc n) k h =
+    let e : 0 ≡ cellAt from k = simp (le-ltb _ _ (h k (omega arith) (omega arith))) in
+    ap₂ (λ (x : ℕ) (l : List ℕ). x ∷ l) e (blank-cells from n (suc k) (λ j a b. h j (omega arith) (omega arith)))
+
+-- the first k cells were written to the front, and then blanks up to n
+pub cells-blanks : (from c d : List ℕ) (k n : ℕ) → take k c ≡ map (cellAt from) (upward k 0) → Written k (n - k) (replicate (n - k) 0) c d → k ≤ n
+    → ((j : ℕ) → k ≤ j → j < n → length from / 4 ≤ j) → take n d ≡ map (cellAt from) (upward n 0)
+cells-blanks from c d k n e p h past =
+    let f : ℕ → ℕ = cellAt from in
+    let sum : k + (n - k) ≡ n = omega arith in
+    let z : 0 + k ≡ k = omega arith in
+    let front : take k d ≡ map f (upward k 0) = p .before ∙ e in
+    let rest : take (n - k) (drop k d) ≡ map f (upward (n - k) (0 + k)) =
+    p .here ∙ blank-cells from (n - k) k (λ j a b. past j a (omega arith)) ∙ ap (λ (a : ℕ). map f (upward (n - k) a)) (sym z) in
+    ap (λ (m : ℕ). take m d) (sym sum) ∙ take-add k (n - k) d ∙ ap₂ (λ (a b : List ℕ). a ++ b) front rest
+    ∙ sym (map-append f (upward k 0) (upward (n - k) (0 + k))) ∙ ap (map f) (sym (upward-append k (n - k) 0)) ∙ ap (λ (m : ℕ). map f (upward m 0)) sum
 
 -- numbers counted from a
 from : (f : ℕ → ℕ) (n a b : ℕ) → map f (upward n (a + b)) ≡ map (λ c. f (a + c)) (upward n b)

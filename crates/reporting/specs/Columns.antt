@@ -1,6 +1,8 @@
 -- How a node's columns are made of its children's, as private contracts speak of it. Definitions only.
 use Prim.Native.Nat.{ℕ}
+use mathlib.Core.Path.{_≡_}
 use mathlib.Core.List.{List, []}
+use lib.ListN.{length, take}
 use Rattle.algebra.specs.Plans.{Tables, Unary, select, project, distinct, group, sort, Binary, cross, semi, quant, fold, each, pair}
 use Rattle.algebra.specs.Places.{Operator, leafNode, unaryNode, binaryNode}
 use Rattle.reading.specs.Nodes.{operatorColumns}
@@ -29,3 +31,7 @@ columnsWay (binaryNode b) = binaryWay b
 -- a node's own columns
 abbrev pub ownColumns : Tables → Operator → List ℕ
 ownColumns T op = operatorColumns T op [] []
+
+-- r ids were written to the front, and they are these columns
+abbrev pub IdsWritten : List ℕ → ℕ → List ℕ → Type 0
+IdsWritten cs r ids = (r ≡ length cs) × (take r ids ≡ cs)

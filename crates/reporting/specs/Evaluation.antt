@@ -1,41 +1,75 @@
--- What the evaluator asks of a plan's tree and of its cells. Private contracts speak of these. Definitions only.
-use Prim.Native.Nat.{ℕ, _≤_}
+-- What the evaluator asks of a plan's tree and of its cells, and what it leaves in them. Private contracts speak of these. Definitions only.
+use Prim.Native.Nat.{ℕ, _+_, _*_, _-_, _≤_, _<_}
 use mathlib.Core.Bool.{true}
 use mathlib.Core.Path.{_≡_}
 use mathlib.Core.List.{List, [], map}
-use Rattle.algebra.specs.Lists.{all, total}
-use lib.ListN.{length}
-use Rattle.algebra.specs.Plans.{Row, Env, Tables, Plan, leafColumns, leafRows, columns, bind, eval}
+use Rattle.algebra.specs.Lists.{if_then_else_, filter, all, flatMap}
+use lib.ListN.{length, take, drop}
+use Rattle.algebra.specs.Plans.{Row, Env, Tables, Plan, leafColumns, leafRows, columns, bind, cut, eval}
 use Rattle.algebra.specs.Places.{Operator, leafNode, unaryNode, binaryNode, subtrees}
 use Rattle.algebra.specs.Names.{introduced}
-use Rattle.algebra.specs.Refusals.{byte, narrow, low, region, leafBound}
-use Rattle.reporting.specs.Rows.{emitted}
+use Rattle.algebra.specs.Refusals.{byte, inView, narrow, low, width, bound, hasRegion, part, leafBound}
+use Rattle.reading.specs.TableSet.{columnsOf, rowsOf, tableRows, tablesOf}
+use Rattle.reading.specs.Tree.{planAt}
+use Rattle.reporting.specs.Rows.{rowAt, rowsFrom, envOf, Gives, passing, acted, actedColumns, emitted, emittedColumns, emittedMost}
+use Rattle.reporting.specs.Written.{Emitted}
 
--- every node's rows have at most 32 columns, its bound is at most 4,096, and its ids are bytes
+-- ---- the tree at a place of a plan, over the tables of a set
+
+-- its columns, and how many they are
+abbrev pub columnsAt : List ℕ → List ℕ → ℕ → List ℕ
+columnsAt set plan i = columns (tablesOf set) (planAt plan i)
+
+abbrev pub widthAt : List ℕ → List ℕ → ℕ → ℕ
+widthAt set plan i = width (tablesOf set) (planAt plan i)
+
+-- its rows, under an environment of words, and how many they are at most
+abbrev pub rowsAt : List ℕ → List ℕ → ℕ → List ℕ → List Row
+rowsAt set plan i words = eval (tablesOf set) (planAt plan i) (envOf words)
+
+abbrev pub boundAt : List ℕ → List ℕ → ℕ → ℕ
+boundAt set plan i = bound (tablesOf set) (planAt plan i)
+
+-- its part of scratch
+abbrev pub partAt : List ℕ → List ℕ → ℕ → ℕ
+partAt set plan i = part (tablesOf set) (planAt plan i)
+
+-- ---- what can be evaluated
+
+-- every node's rows have at most 32 columns, its bound is at most 4,096, its ids are bytes, and its names are in view inside rows of some scope
 pub record Sound (T : Tables) (p : Plan) : Type 0 where
   pub narrowAll : all (narrow T) (subtrees p) ≡ true
   pub lowAll : all (low T) (subtrees p) ≡ true
   pub small : all byte (introduced T p) ≡ true
-
--- the cells that all regions of a tree take
-abbrev pub regions : Tables → Plan → ℕ
-regions T p = total (map (region T) (subtrees p))
+  pub scope : List ℕ
+  pub inViewAll : inView T scope p ≡ true
 
 -- a tree that can be evaluated in so many cells, under an environment of so many words
 pub record Ready (T : Tables) (p : Plan) (cells env : ℕ) : Type 0 where
   pub sound : Sound T p
-  pub room : regions T p ≤ cells
+  pub room : part T p ≤ cells
   pub bound : env ≡ 256
 
--- what one left row gives at a node with two children: q the second child's tree, cs and ds the children's columns, env around the node.
--- Of a node that is not nested the right rows are rs for every left row.
-abbrev pub nestedRow : Tables → Operator → List ℕ → Plan → Env → Row → List Row
-nestedRow T op cs q env l = emitted op (columns T q) l (bind cs l env) (eval T q (bind cs l env))
+abbrev pub SoundAt : List ℕ → List ℕ → ℕ → Type 0
+SoundAt set plan i = Sound (tablesOf set) (planAt plan i)
 
-abbrev pub plainRow : Operator → List ℕ → List ℕ → List Row → Env → Row → List Row
-plainRow op cs ds rs env l = emitted op ds l (bind cs l env) rs
+abbrev pub ReadyAt : List ℕ → List ℕ → ℕ → ℕ → ℕ → Type 0
+ReadyAt set plan i cells env = Ready (tablesOf set) (planAt plan i) cells env
 
--- the rows of a node with no children, their width, and how many there are at most
+-- what evaluating the tree at a place leaves at the front of cells: its r rows
+abbrev pub TreeGiven : List ℕ → List ℕ → ℕ → List ℕ → ℕ → List ℕ → Type 0
+TreeGiven set plan i words r cells = Gives (rowsAt set plan i words) (widthAt set plan i) (boundAt set plan i) r cells
+
+-- The cells that so many rows of w cells take in the node's region, which stands before its first child's part. A node without a region
+-- works in place, in the cells of its first child's rows.
+abbrev pub regionOf : Operator → ℕ → ℕ → ℕ
+regionOf op rows w = if hasRegion op then rows * w else 0
+
+-- the region of a node op at a place
+abbrev pub regionAt : List ℕ → List ℕ → ℕ → Operator → ℕ
+regionAt set plan i op = regionOf op (boundAt set plan i) (widthAt set plan i)
+
+-- ---- a node with no children: its rows, their width, and how many there are at most
 abbrev pub leafGiven : Tables → Operator → List Row
 leafGiven T (leafNode x) = leafRows T x
 leafGiven T (unaryNode u) = []
@@ -50,3 +84,80 @@ abbrev pub leafMost : Tables → Operator → ℕ
 leafMost T (leafNode x) = leafBound T x
 leafMost T (unaryNode u) = 0
 leafMost T (binaryNode b) = 0
+
+-- what it leaves at the front; and a table's rows
+abbrev pub LeafGiven : List ℕ → Operator → ℕ → List ℕ → Type 0
+LeafGiven set op r cells = Gives (leafGiven (tablesOf set) op) (leafWidth (tablesOf set) op) (leafMost (tablesOf set) op) r cells
+
+abbrev pub TableGiven : List ℕ → ℕ → List ℕ → Type 0
+TableGiven table r cells = Gives (tableRows table) (columnsOf table) (rowsOf table) r cells
+
+-- ---- a node with one child, of whose columns cs m rows stand at `own`
+
+-- m rows of n cells each are written at the front: they end no later than the m rows of w cells at `own` do, so that each is written where rows
+-- have been read already; and where they do not all fit before these, there is room for one more behind them.
+pub record CutsRoom (w n own m cells : ℕ) : Type 0 where
+  pub ends : m * n ≤ own + m * w
+  pub inside : own + m * w ≤ cells
+  pub behind : own < m * n → own + m * w + n ≤ cells
+
+-- the node's region stands before the rows
+pub record UnaryRoom (op : Operator) (cs : List ℕ) (own m cells : ℕ) : Type 0 where
+  pub region : regionOf op m (length (actedColumns op cs)) ≤ own
+  pub cuts : CutsRoom (length cs) (length (actedColumns op cs)) own m cells
+
+-- what it leaves at the front
+abbrev pub UnaryGiven : Operator → List ℕ → List ℕ → ℕ → ℕ → List ℕ → ℕ → List ℕ → Type 0
+UnaryGiven op cs words own m entry r exit = Gives (acted op cs (envOf words) (rowsFrom own m (length cs) entry)) (length (actedColumns op cs)) m r exit
+
+-- those of the rows that pass a Select
+abbrev pub SelectGiven : Operator → List ℕ → List ℕ → ℕ → ℕ → List ℕ → ℕ → List ℕ → Type 0
+SelectGiven op cs words own m entry r exit = Gives (filter (λ q. passing op (bind cs q (envOf words))) (rowsFrom own m (length cs) entry)) (length cs) m r exit
+
+-- each row cut to a list of ids
+abbrev pub CutsGiven : List ℕ → List ℕ → List ℕ → ℕ → ℕ → List ℕ → ℕ → List ℕ → Type 0
+CutsGiven ids cs words own m entry r exit = Gives (map (cut ids cs (envOf words)) (rowsFrom own m (length cs) entry)) (length ids) m r exit
+
+-- ---- a node with two children, cs and ds their columns
+
+-- what one left row gives: of a nested node, q the inner plan and env around the node; of another node, whose right rows are rs
+abbrev pub nestedRow : Tables → Operator → List ℕ → Plan → Env → Row → List Row
+nestedRow T op cs q env l = emitted op (columns T q) l (bind cs l env) (eval T q (bind cs l env))
+
+abbrev pub plainRow : Operator → List ℕ → List ℕ → List Row → Env → Row → List Row
+plainRow op cs ds rs env l = emitted op ds l (bind cs l env) rs
+
+-- One left row stands at src, and its right rows, at most k, from `behind` on. What it gives at dst ends before it, or it only moves down.
+pub record StepRoom (op : Operator) (cs ds : List ℕ) (k src dst behind : ℕ) : Type 0 where
+  pub below : dst + regionOf op (emittedMost op k) (length (emittedColumns op cs ds)) ≤ src
+  pub apart : src + length cs ≤ behind
+
+-- m left rows stand at `own`, behind the node's region, and before `behind`
+pub record LoopRoom (op : Operator) (cs ds : List ℕ) (k own m behind : ℕ) : Type 0 where
+  pub region : regionOf op (m * emittedMost op k) (length (emittedColumns op cs ds)) ≤ own
+  pub apart : own + m * length cs ≤ behind
+
+-- what one left row gives, with the environment around the node; behind the row all is as it was
+abbrev pub PlainStep : Operator → List ℕ → List ℕ → List ℕ → ℕ → ℕ → ℕ → ℕ → List ℕ → ℕ → List ℕ → Type 0
+PlainStep op cs ds words src dst behind k entry r exit =
+    Emitted (plainRow op cs ds (rowsFrom behind k (length ds) entry) (envOf words) (rowAt src (length cs) entry)) (length (emittedColumns op cs ds)) (emittedMost op k) r dst
+    (src + length cs) entry exit
+
+-- what all m left rows give, at the front
+abbrev pub PlainGiven : Operator → List ℕ → List ℕ → List ℕ → ℕ → ℕ → ℕ → ℕ → List ℕ → ℕ → List ℕ → Type 0
+PlainGiven op cs ds words own m behind k entry r exit =
+    Gives (flatMap (plainRow op cs ds (rowsFrom behind k (length ds) entry) (envOf words)) (rowsFrom own m (length cs) entry)) (length (emittedColumns op cs ds))
+    (m * emittedMost op k) r exit
+
+-- What one left row of a nested node gives; its inner plan, at place `inner`, is run in the cells from `behind` on, and between the row and
+-- these all is as it was.
+pub record NestedStep (set plan : List ℕ) (inner : ℕ) (op : Operator) (cs words : List ℕ) (src dst behind : ℕ) (entry : List ℕ) (r : ℕ) (exit : List ℕ) : Type 0 where
+  pub gives : Gives (nestedRow (tablesOf set) op cs (planAt plan inner) (envOf words) (rowAt src (length cs) entry)) (length (emittedColumns op cs (columnsAt set plan inner)))
+      (emittedMost op (boundAt set plan inner)) r (drop dst exit)
+  pub before : take dst exit ≡ take dst entry
+  pub between : take (behind - (src + length cs)) (drop (src + length cs) exit) ≡ take (behind - (src + length cs)) (drop (src + length cs) entry)
+
+abbrev pub NestedGiven : List ℕ → List ℕ → ℕ → Operator → List ℕ → List ℕ → ℕ → ℕ → List ℕ → ℕ → List ℕ → Type 0
+NestedGiven set plan inner op cs words own m entry r exit =
+    Gives (flatMap (nestedRow (tablesOf set) op cs (planAt plan inner) (envOf words)) (rowsFrom own m (length cs) entry)) (length (emittedColumns op cs (columnsAt set plan inner)))
+    (m * emittedMost op (boundAt set plan inner)) r exit

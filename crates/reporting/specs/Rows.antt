@@ -6,7 +6,7 @@ use mathlib.Core.Path.{_≡_}
 use mathlib.Core.List.{List, [], _∷_}
 use lib.ListN.{getD, take, drop}
 use Rattle.algebra.specs.Cells.{eq, Aggregate, count}
-use Rattle.algebra.specs.Plans.{Row, Env, holds, Unary, select, project, distinct, group, sort, Binary, cross, semi, quant, fold, each, pair, unaryColumns, binaryColumns, matched, gather, emit, act}
+use Rattle.algebra.specs.Plans.{Row, Env, bind, holds, Unary, select, project, distinct, group, sort, Binary, cross, semi, quant, fold, each, pair, unaryColumns, binaryColumns, matched, gather, emit, act}
 use Rattle.algebra.specs.Places.{Operator, leafNode, unaryNode, binaryNode}
 use Rattle.algebra.specs.Refusals.{perRow}
 
@@ -17,6 +17,13 @@ unfoldable pub chunk : ℕ → ℕ → List ℕ → List Row
 chunk zero w cells = []
 chunk (suc k) w cells = take w cells ∷ chunk k w (drop w cells)
 
+-- the row of w cells at a place, and k rows from a place on
+abbrev pub rowAt : ℕ → ℕ → List ℕ → Row
+rowAt at w cells = take w (drop at cells)
+
+abbrev pub rowsFrom : ℕ → ℕ → ℕ → List ℕ → List Row
+rowsFrom at k w cells = chunk k w (drop at cells)
+
 -- what a step leaves at the front of cells: r rows of w cells, which are `rows`, and at most `most`
 pub record Gives (rows : List Row) (w most r : ℕ) (cells : List ℕ) : Type 0 where
   pub is : chunk r w cells ≡ rows
@@ -26,6 +33,10 @@ pub record Gives (rows : List Row) (w most r : ℕ) (cells : List ℕ) : Type 0 
 
 abbrev pub envOf : List ℕ → Env
 envOf words x = getD words x 0
+
+-- with one column more
+abbrev pub keyEnv : ℕ → ℕ → List ℕ → Env
+keyEnv id key words = bind (id ∷ []) (key ∷ []) (envOf words)
 
 -- ---- what one node does
 

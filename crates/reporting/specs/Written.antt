@@ -1,10 +1,13 @@
--- Rows written among cells. Private contracts speak of them. Definitions only.
-use Prim.Native.Nat.{ℕ, _+_}
+-- Rows written among cells: what one row of a node gives. Private contracts speak of them. Definitions only.
+use Prim.Native.Nat.{ℕ, _+_, _-_, _≤_, _<_, max}
+use mathlib.Core.Bool.{Bool, cond}
+use mathlib.Core.Logic.{_⊎_}
 use mathlib.Core.Path.{_≡_}
-use mathlib.Core.List.{List}
-use lib.ListN.{take, drop}
-use Rattle.algebra.specs.Plans.{Row}
-use Rattle.reporting.specs.Rows.{Gives}
+use mathlib.Core.List.{List, [], _∷_, _++_, map}
+use lib.ListN.{length, take, drop}
+use Rattle.algebra.specs.Plans.{Row, Env, each, cut, emit}
+use Rattle.algebra.specs.Places.{Operator}
+use Rattle.reporting.specs.Rows.{chunk, rowAt, rowsFrom, Gives, envOf, gathered, emitted, emittedColumns, emittedMost}
 
 -- after a row of w cells was written at a place: what stands before the place and behind the row is as it was
 pub record Written (at w : ℕ) (row : Row) (entry exit : List ℕ) : Type 0 where
@@ -12,8 +15,57 @@ pub record Written (at w : ℕ) (row : Row) (entry exit : List ℕ) : Type 0 whe
   pub here : take w (drop at exit) ≡ row
   pub behind : drop (at + w) exit ≡ drop (at + w) entry
 
--- after rows were written at dst: what stands before them and from `own` on is as it was
-pub record Emitted (rows : List Row) (w most r dst own : ℕ) (entry exit : List ℕ) : Type 0 where
+-- after rows were written at dst: what stands before them and from `rest` on is as it was
+pub record Emitted (rows : List Row) (w most r dst rest : ℕ) (entry exit : List ℕ) : Type 0 where
   pub gives : Gives rows w most r (drop dst exit)
   pub before : take dst exit ≡ take dst entry
-  pub behind : drop own exit ≡ drop own entry
+  pub behind : drop rest exit ≡ drop rest entry
+
+-- ---- what one row gives; the row, of columns cs or of w cells, stands at src, and what it gives is written at dst
+
+-- two stretches of cells that do not overlap: w cells at src, n cells at `to`
+abbrev pub Apart : ℕ → ℕ → ℕ → ℕ → Type 0
+Apart src w to n = (to + n ≤ src) ⊎ (src + w ≤ to)
+
+-- the row cut to a list of ids
+abbrev pub CutWritten : List ℕ → List ℕ → List ℕ → ℕ → ℕ → List ℕ → List ℕ → Type 0
+CutWritten ids cs words src dst entry exit = Written dst (length ids) (cut ids cs (envOf words) (rowAt src (length cs) entry)) entry exit
+
+-- A cut of n cells may end where the row of w cells ends, and no later. Where it overlaps the row there is room for n cells behind the row.
+pub record CutRoom (w n src dst room cells : ℕ) : Type 0 where
+  pub ends : dst + n ≤ src + w
+  pub inside : src + w ≤ cells
+  pub behind : src < dst + n → (src + w ≤ room) × (room + n ≤ cells)
+
+-- after that: what stands before dst, and between the row and the room, is as it was
+pub record CutMoved (ids cs words : List ℕ) (src dst room : ℕ) (entry exit : List ℕ) : Type 0 where
+  pub before : take dst exit ≡ take dst entry
+  pub here : rowAt dst (length ids) exit ≡ cut ids cs (envOf words) (rowAt src (length cs) entry)
+  pub between : take (room - (src + length cs)) (drop (src + length cs) exit) ≡ take (room - (src + length cs)) (drop (src + length cs) entry)
+
+-- the row and the node's aggregate over k right rows, which stand at `behind`
+abbrev pub GatherWritten : Operator → List ℕ → List ℕ → ℕ → ℕ → ℕ → ℕ → ℕ → List ℕ → List ℕ → Type 0
+GatherWritten op ds words src w dst behind k entry exit =
+    Written dst (w + 1) (rowAt src w entry ++ (gathered op ds (envOf words) (rowsFrom behind k (length ds) entry) ∷ [])) entry exit
+
+-- the row joined to each right row
+abbrev pub joinedRows : Row → List Row → List Row
+joinedRows l rs = map (λ r. l ++ r) rs
+
+abbrev pub JoinGiven : ℕ → ℕ → ℕ → ℕ → ℕ → ℕ → List ℕ → List ℕ → Type 0
+JoinGiven src w dst behind k v entry exit = Emitted (joinedRows (rowAt src w entry) (rowsFrom behind k v entry)) (w + v) k k dst (src + w) entry exit
+
+-- .. with no right row, once, with blanks
+abbrev pub EachGiven : List ℕ → ℕ → ℕ → ℕ → ℕ → ℕ → List ℕ → ℕ → List ℕ → Type 0
+EachGiven ds src w dst behind k entry r exit =
+    (env : Env) → Emitted (emit each ds (rowAt src w entry) env (rowsFrom behind k (length ds) entry)) (w + length ds) (max 1 k) r dst (src + w) entry exit
+
+-- whether the node keeps its left row, of k right rows at the front of `rows`
+abbrev pub KeptBy : Operator → List ℕ → List ℕ → ℕ → List ℕ → Bool → Type 0
+KeptBy op ds words k rows b = (l : Row) → emitted op ds l (envOf words) (chunk k (length ds) rows) ≡ cond b (l ∷ []) []
+
+-- whatever the node's kind, with the environment inside the row
+abbrev pub EmitGiven : Operator → List ℕ → List ℕ → List ℕ → ℕ → ℕ → ℕ → ℕ → List ℕ → ℕ → List ℕ → Type 0
+EmitGiven op cs ds words src dst behind k entry r exit =
+    Emitted (emitted op ds (rowAt src (length cs) entry) (envOf words) (rowsFrom behind k (length ds) entry)) (length (emittedColumns op cs ds)) (emittedMost op k) r dst
+    (src + length cs) entry exit

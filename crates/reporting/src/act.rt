@@ -1,10 +1,10 @@
 // What a node with one child gives of its child's rows.
 ghost use mathlib.Core.Path.{_≡_};
-ghost use Prim.Native.Nat.{_+_, _*_, _≤_};
-ghost use lib.ListN.{length, drop};
+ghost use Prim.Native.Nat.{_≤_};
+ghost use lib.ListN.{length};
 ghost use Rattle.reading.specs.Tree.{operatorOf};
 ghost use Rattle.reading.specs.Nodes.{arity};
-ghost use Rattle.reporting.specs.Rows.{chunk, envOf, Gives, acted, actedColumns};
+ghost use Rattle.reporting.specs.Evaluation.{UnaryRoom, UnaryGiven};
 use crate::group::group;
 use crate::select::project;
 use crate::select::select;
@@ -23,8 +23,8 @@ pub(crate) fn act(
     env: &[u32],
 ) -> usize
     requires { ⌜ (arity (operatorOf node) ≡ 1) × (length (now env) ≡ 256) × (m ≤ 4096) × (length (now ids) ≤ 32) ⌝ }
-    requires { ⌜ (m * length (actedColumns (operatorOf node) (now ids)) ≤ own) × (own + m * length (now ids) ≤ length (now cells)) ⌝ }
-    ensures { λ r. ⌜ Gives (acted (operatorOf node) (now (ids .entry)) (envOf (now (env .entry))) (chunk m (length (now (ids .entry))) (drop own (now (cells .entry))))) (length (actedColumns (operatorOf node) (now (ids .entry)))) m r (now (cells .exit)) ⌝ }
+    requires { ⌜ UnaryRoom (operatorOf node) (now ids) own m (length (now cells)) ⌝ }
+    ensures { λ r. ⌜ UnaryGiven (operatorOf node) (now (ids .entry)) (now (env .entry)) own m (now (cells .entry)) r (now (cells .exit)) ⌝ }
 {
     let kind = node.kind;
     if kind == 2 {

@@ -4,16 +4,17 @@ ghost use mathlib.Core.Bool.{true};
 ghost use Prim.Native.Nat.{_≤_};
 ghost use lib.ListN.{length, take};
 ghost use Rattle.algebra.specs.Lists.{all, upward};
-ghost use Rattle.algebra.specs.Plans.{columns};
-ghost use Rattle.algebra.specs.Refusals.{byte, width, region};
+ghost use Rattle.algebra.specs.Refusals.{byte};
 ghost use Rattle.reading.specs.TableSet.{tablesOf};
-ghost use Rattle.reading.specs.Tree.{operatorOf, nodeList, planAt};
+ghost use Rattle.reading.specs.Tree.{operatorOf, nodeList};
 ghost use Rattle.reading.specs.Nodes.{operatorNew};
-ghost use Rattle.reporting.specs.Columns.{columnsWay, ownColumns};
-ghost use Rattle.reporting.specs.Evaluation.{Sound};
+ghost use Rattle.reporting.specs.Columns.{columnsWay, ownColumns, IdsWritten};
+ghost use Rattle.reporting.specs.Evaluation.{columnsAt, widthAt, regionAt, partAt, SoundAt};
 use reading::bound::bound_at;
 use reading::columns::columns_at;
 use reading::columns::list_length;
+use reading::need::has_region;
+use reading::need::part_at;
 use reading::plan::Node;
 use reading::plan::node_at;
 use reading::set::columns_of;
@@ -21,12 +22,23 @@ use reading::set::table_from;
 use reading::tree::nodes_of;
 use reading::tree::tree_end;
 
-// The cells that the rows of the tree at place i can take: bound × columns.
-pub(crate) fn region_at(set: &[u8], plan: &[u8], i: usize) -> usize
-    requires { ⌜ Sound (tablesOf (now set)) (planAt (now plan) i) ⌝ }
-    ensures { λ r. ⌜ (r ≡ region (tablesOf (now (set .entry))) (planAt (now (plan .entry)) i)) × (r ≤ 131072) ⌝ }
+// The cells of the region of the node at place i: bound × columns; a node that works in place has none.
+pub(crate) fn region_at(set: &[u8], plan: &[u8], i: usize, node: Node) -> usize
+    requires { ⌜ SoundAt (now set) (now plan) i ⌝ }
+    ensures { λ r. ⌜ (r ≡ regionAt (now (set .entry)) (now (plan .entry)) i (operatorOf node)) × (r ≤ 131072) ⌝ }
 {
+    if !has_region(node) {
+        return 0;
+    }
     bound_at(set, plan, i) * columns_at(set, plan, i)
+}
+
+// The cells of the part of scratch of the tree at place i.
+pub(crate) fn tree_part(set: &[u8], plan: &[u8], i: usize) -> usize
+    requires { ⌜ SoundAt (now set) (now plan) i ⌝ }
+    ensures { λ r. ⌜ r ≡ partAt (now (set .entry)) (now (plan .entry)) i ⌝ }
+{
+    part_at(set, plan, i)
 }
 
 // ---- A node's own columns
@@ -59,7 +71,7 @@ fn ids_upward(ids: &mut [u8], first: u8, n: usize)
 // Writes the ids of a node's list to the front, and gives how many they are.
 fn ids_listed(ids: &mut [u8], node: Node) -> usize
     requires { ⌜ length (nodeList node) ≤ length (now ids) ⌝ }
-    ensures { λ r. ⌜ (r ≡ length (nodeList node)) × (take r (now (ids .exit)) ≡ nodeList node) ⌝ }
+    ensures { λ r. ⌜ IdsWritten (nodeList node) r (now (ids .exit)) ⌝ }
 {
     let list = node.list;
     let n = list_length(list, node.listed);
@@ -83,7 +95,7 @@ fn columns_way(node: Node) -> u8
 fn own_ids(set: &[u8], node: Node, ids: &mut [u8]) -> usize
     requires { ⌜ (columnsWay (operatorOf node) ≡ 0) × (all byte (operatorNew (tablesOf (now set)) (operatorOf node)) ≡ true) ⌝ }
     requires { ⌜ length (ownColumns (tablesOf (now set)) (operatorOf node)) ≤ length (now ids) ⌝ }
-    ensures { λ r. ⌜ (r ≡ length (ownColumns (tablesOf (now (set .entry))) (operatorOf node))) × (take r (now (ids .exit)) ≡ ownColumns (tablesOf (now (set .entry))) (operatorOf node)) ⌝ }
+    ensures { λ r. ⌜ IdsWritten (ownColumns (tablesOf (now (set .entry))) (operatorOf node)) r (now (ids .exit)) ⌝ }
 {
     let kind = node.kind;
     if kind == 1 {
@@ -110,9 +122,8 @@ fn own_ids(set: &[u8], node: Node, ids: &mut [u8]) -> usize
 
 // Writes the ids of the columns of the tree at place i to the front of ids, and gives how many they are.
 pub(crate) fn columns_into(set: &[u8], plan: &[u8], i: usize, ids: &mut [u8]) -> usize
-    requires { ⌜ Sound (tablesOf (now set)) (planAt (now plan) i) ⌝ }
-    requires { ⌜ width (tablesOf (now set)) (planAt (now plan) i) ≤ length (now ids) ⌝ }
-    ensures { λ r. ⌜ (r ≡ width (tablesOf (now (set .entry))) (planAt (now (plan .entry)) i)) × (take r (now (ids .exit)) ≡ columns (tablesOf (now (set .entry))) (planAt (now (plan .entry)) i)) ⌝ }
+    requires { ⌜ SoundAt (now set) (now plan) i × (widthAt (now set) (now plan) i ≤ length (now ids)) ⌝ }
+    ensures { λ r. ⌜ IdsWritten (columnsAt (now (set .entry)) (now (plan .entry)) i) r (now (ids .exit)) ⌝ }
 {
     if nodes_of(plan) <= i {
         return 0;

@@ -1,18 +1,16 @@
 // The evaluator. Node evaluation and the evaluation of an inner plan for one left row call each other; the subtree gets smaller.
 ghost use mathlib.Core.Path.{_≡_};
-ghost use Prim.Native.Nat.{_+_, _*_, _-_, _≤_, _<_};
-ghost use lib.ListN.{length, take, drop};
-ghost use Rattle.algebra.specs.Lists.{flatMap};
-ghost use Rattle.algebra.specs.Plans.{eval as evaluate, columns};
-ghost use Rattle.algebra.specs.Refusals.{width, bound};
-ghost use Rattle.reading.specs.TableSet.{tablesOf};
-ghost use Rattle.reading.specs.Tree.{operatorOf, planAt};
+ghost use Prim.Native.Nat.{_+_, _*_, _-_, _≤_};
+ghost use lib.ListN.{length};
+ghost use Rattle.reading.specs.Tree.{operatorOf};
 ghost use Rattle.reading.specs.Nodes.{arity, operatorNested};
-ghost use Rattle.reporting.specs.Rows.{chunk, envOf, Gives, acted, actedColumns, emittedColumns, emittedMost};
-ghost use Rattle.reporting.specs.Evaluation.{Sound, Ready, nestedRow, plainRow};
+ghost use Rattle.reporting.specs.Rows.{emittedColumns, emittedMost};
+ghost use Rattle.reporting.specs.Evaluation.{columnsAt, boundAt, widthAt, SoundAt, ReadyAt, TreeGiven, UnaryRoom, UnaryGiven};
+ghost use Rattle.reporting.specs.Evaluation.{StepRoom, LoopRoom, PlainStep, PlainGiven, NestedStep, NestedGiven};
 use crate::act::act;
 use crate::columns::columns_into;
 use crate::columns::region_at;
+use crate::columns::tree_part;
 use crate::emit::emit_row;
 use crate::env::inner_env;
 use crate::leaf::leaf;
@@ -60,9 +58,10 @@ pub(crate) fn unary_at(
     m: usize,
     env: &[u32],
 ) -> usize
-    requires { ⌜ Sound (tablesOf (now set)) (planAt (now plan) left) × (arity (operatorOf node) ≡ 1) × (length (now env) ≡ 256) × (m ≤ 4096) ⌝ }
-    requires { ⌜ (m * length (actedColumns (operatorOf node) (columns (tablesOf (now set)) (planAt (now plan) left))) ≤ own) × (own + m * width (tablesOf (now set)) (planAt (now plan) left) ≤ length (now cells)) ⌝ }
-    ensures { λ r. ⌜ Gives (acted (operatorOf node) (columns (tablesOf (now (set .entry))) (planAt (now (plan .entry)) left)) (envOf (now (env .entry))) (chunk m (width (tablesOf (now (set .entry))) (planAt (now (plan .entry)) left)) (drop own (now (cells .entry))))) (length (actedColumns (operatorOf node) (columns (tablesOf (now (set .entry))) (planAt (now (plan .entry)) left)))) m r (now (cells .exit)) ⌝ }
+    requires { ⌜ SoundAt (now set) (now plan) left × (arity (operatorOf node) ≡ 1) × (length (now env) ≡ 256) × (m ≤ 4096) ⌝ }
+    requires { ⌜ UnaryRoom (operatorOf node) (columnsAt (now set) (now plan) left) own m (length (now cells)) ⌝ }
+    ensures { λ r. ⌜ UnaryGiven (operatorOf node) (columnsAt (now (set .entry)) (now (plan .entry)) left) (now (env .entry)) own m
+        (now (cells .entry)) r (now (cells .exit)) ⌝ }
 {
     let mut ids = [0u8; 32];
     let w = columns_into(set, plan, left, &mut ids);
@@ -73,7 +72,6 @@ pub(crate) fn unary_at(
 fn plain_step(
     node: Node,
     cells: &mut [u32],
-    own: usize,
     src: usize,
     ids: &[u8],
     dst: usize,
@@ -83,14 +81,14 @@ fn plain_step(
     env: &[u32],
 ) -> usize
     requires { ⌜ (arity (operatorOf node) ≡ 2) × (length (now env) ≡ 256) × (k ≤ 4096) ⌝ }
-    requires { ⌜ (dst + emittedMost (operatorOf node) k * length (emittedColumns (operatorOf node) (now ids) (now jds)) ≤ own) × (own ≤ src) × (src + length (now ids) ≤ behind) × (behind + k * length (now jds) ≤ length (now cells)) ⌝ }
-    ensures { λ r. ⌜ Gives (plainRow (operatorOf node) (now (ids .entry)) (now (jds .entry)) (chunk k (length (now (jds .entry))) (drop behind (now (cells .entry)))) (envOf (now (env .entry))) (take (length (now (ids .entry))) (drop src (now (cells .entry))))) (length (emittedColumns (operatorOf node) (now (ids .entry)) (now (jds .entry)))) (emittedMost (operatorOf node) k) r (drop dst (now (cells .exit))) ⌝ }
-    ensures { λ _. ⌜ (take dst (now (cells .exit)) ≡ take dst (now (cells .entry))) × (drop own (now (cells .exit)) ≡ drop own (now (cells .entry))) ⌝ }
+    requires { ⌜ StepRoom (operatorOf node) (now ids) (now jds) k src dst behind × (behind + k * length (now jds) ≤ length (now cells)) ⌝ }
+    ensures { λ r. ⌜ PlainStep (operatorOf node) (now (ids .entry)) (now (jds .entry)) (now (env .entry))
+        src dst behind k (now (cells .entry)) r (now (cells .exit)) ⌝ }
 {
     let w = ids.len();
     let mut inside = [0u32; 256];
     inner_env(&mut inside, env, ids, &cells[src..src + w]);
-    emit_row(node, cells, own, src, ids, dst, behind, k, jds, &inside)
+    emit_row(node, cells, src, ids, dst, behind, k, jds, &inside)
 }
 
 // The rows of each of m left rows at `own`, at the front; the k right rows stand at `behind`.
@@ -105,9 +103,11 @@ fn plain_loop(
     jds: &[u8],
     env: &[u32],
 ) -> usize
-    requires { ⌜ (arity (operatorOf node) ≡ 2) × (length (now env) ≡ 256) × (k ≤ 4096) × (m * emittedMost (operatorOf node) k ≤ 4096) × (length (now ids) ≤ 32) × (length (now jds) ≤ 32) ⌝ }
-    requires { ⌜ (m * emittedMost (operatorOf node) k * length (emittedColumns (operatorOf node) (now ids) (now jds)) ≤ own) × (own + m * length (now ids) ≤ behind) × (behind + k * length (now jds) ≤ length (now cells)) ⌝ }
-    ensures { λ r. ⌜ Gives (flatMap (plainRow (operatorOf node) (now (ids .entry)) (now (jds .entry)) (chunk k (length (now (jds .entry))) (drop behind (now (cells .entry)))) (envOf (now (env .entry)))) (chunk m (length (now (ids .entry))) (drop own (now (cells .entry))))) (length (emittedColumns (operatorOf node) (now (ids .entry)) (now (jds .entry)))) (m * emittedMost (operatorOf node) k) r (now (cells .exit)) ⌝ }
+    requires { ⌜ (arity (operatorOf node) ≡ 2) × (length (now env) ≡ 256) × (length (now ids) ≤ 32) × (length (now jds) ≤ 32) ⌝ }
+    requires { ⌜ (k ≤ 4096) × (m * emittedMost (operatorOf node) k ≤ 4096) × (behind + k * length (now jds) ≤ length (now cells)) ⌝ }
+    requires { ⌜ LoopRoom (operatorOf node) (now ids) (now jds) k own m behind ⌝ }
+    ensures { λ r. ⌜ PlainGiven (operatorOf node) (now (ids .entry)) (now (jds .entry)) (now (env .entry))
+        own m behind k (now (cells .entry)) r (now (cells .exit)) ⌝ }
 {
     let w = ids.len();
     let wo = emitted_width(node, ids, jds);
@@ -116,7 +116,7 @@ fn plain_loop(
     let mut src = own;
     let mut dst = 0;
     while i < m {
-        let r = plain_step(node, cells, own, src, ids, dst, behind, k, jds, env);
+        let r = plain_step(node, cells, src, ids, dst, behind, k, jds, env);
         out += r;
         dst += r * wo;
         i += 1;
@@ -139,10 +139,11 @@ fn binary_at(
     k: usize,
     env: &[u32],
 ) -> usize
-    requires { ⌜ Sound (tablesOf (now set)) (planAt (now plan) left) × Sound (tablesOf (now set)) (planAt (now plan) right) ⌝ }
-    requires { ⌜ (arity (operatorOf node) ≡ 2) × (length (now env) ≡ 256) × (k ≤ 4096) × (m * emittedMost (operatorOf node) k ≤ 4096) ⌝ }
-    requires { ⌜ (m * emittedMost (operatorOf node) k * length (emittedColumns (operatorOf node) (columns (tablesOf (now set)) (planAt (now plan) left)) (columns (tablesOf (now set)) (planAt (now plan) right))) ≤ own) × (own + m * width (tablesOf (now set)) (planAt (now plan) left) ≤ behind) × (behind + k * width (tablesOf (now set)) (planAt (now plan) right) ≤ length (now cells)) ⌝ }
-    ensures { λ r. ⌜ Gives (flatMap (plainRow (operatorOf node) (columns (tablesOf (now (set .entry))) (planAt (now (plan .entry)) left)) (columns (tablesOf (now (set .entry))) (planAt (now (plan .entry)) right)) (chunk k (width (tablesOf (now (set .entry))) (planAt (now (plan .entry)) right)) (drop behind (now (cells .entry)))) (envOf (now (env .entry)))) (chunk m (width (tablesOf (now (set .entry))) (planAt (now (plan .entry)) left)) (drop own (now (cells .entry))))) (length (emittedColumns (operatorOf node) (columns (tablesOf (now (set .entry))) (planAt (now (plan .entry)) left)) (columns (tablesOf (now (set .entry))) (planAt (now (plan .entry)) right)))) (m * emittedMost (operatorOf node) k) r (now (cells .exit)) ⌝ }
+    requires { ⌜ SoundAt (now set) (now plan) left × SoundAt (now set) (now plan) right × (arity (operatorOf node) ≡ 2) × (length (now env) ≡ 256) ⌝ }
+    requires { ⌜ (k ≤ 4096) × (m * emittedMost (operatorOf node) k ≤ 4096) × (behind + k * widthAt (now set) (now plan) right ≤ length (now cells)) ⌝ }
+    requires { ⌜ LoopRoom (operatorOf node) (columnsAt (now set) (now plan) left) (columnsAt (now set) (now plan) right) k own m behind ⌝ }
+    ensures { λ r. ⌜ PlainGiven (operatorOf node) (columnsAt (now (set .entry)) (now (plan .entry)) left)
+        (columnsAt (now (set .entry)) (now (plan .entry)) right) (now (env .entry)) own m behind k (now (cells .entry)) r (now (cells .exit)) ⌝ }
 {
     let mut ids = [0u8; 32];
     let w = columns_into(set, plan, left, &mut ids);
@@ -160,7 +161,6 @@ fn row_step(
     inner: usize,
     node: Node,
     cells: &mut [u32],
-    own: usize,
     src: usize,
     ids: &[u8],
     dst: usize,
@@ -168,17 +168,17 @@ fn row_step(
     jds: &[u8],
     env: &[u32],
 ) -> usize
-    requires { ⌜ (arity (operatorOf node) ≡ 2) × (now jds ≡ columns (tablesOf (now set)) (planAt (now plan) inner)) ⌝ }
-    requires { ⌜ (dst + emittedMost (operatorOf node) (bound (tablesOf (now set)) (planAt (now plan) inner)) * length (emittedColumns (operatorOf node) (now ids) (now jds)) ≤ own) × (own ≤ src) × (src + length (now ids) ≤ behind) × (behind ≤ length (now cells)) ⌝ }
-    requires { ⌜ Ready (tablesOf (now set)) (planAt (now plan) inner) (length (now cells) - behind) (length (now env)) ⌝ }
-    ensures { λ r. ⌜ Gives (nestedRow (tablesOf (now (set .entry))) (operatorOf node) (now (ids .entry)) (planAt (now (plan .entry)) inner) (envOf (now (env .entry))) (take (length (now (ids .entry))) (drop src (now (cells .entry))))) (length (emittedColumns (operatorOf node) (now (ids .entry)) (now (jds .entry)))) (emittedMost (operatorOf node) (bound (tablesOf (now (set .entry))) (planAt (now (plan .entry)) inner))) r (drop dst (now (cells .exit))) ⌝ }
-    ensures { λ _. ⌜ (take dst (now (cells .exit)) ≡ take dst (now (cells .entry))) × (take (behind - own) (drop own (now (cells .exit))) ≡ take (behind - own) (drop own (now (cells .entry)))) ⌝ }
+    requires { ⌜ (arity (operatorOf node) ≡ 2) × (now jds ≡ columnsAt (now set) (now plan) inner) × (behind ≤ length (now cells)) ⌝ }
+    requires { ⌜ StepRoom (operatorOf node) (now ids) (now jds) (boundAt (now set) (now plan) inner) src dst behind ⌝ }
+    requires { ⌜ ReadyAt (now set) (now plan) inner (length (now cells) - behind) (length (now env)) ⌝ }
+    ensures { λ r. ⌜ NestedStep (now (set .entry)) (now (plan .entry)) inner (operatorOf node) (now (ids .entry)) (now (env .entry)) src dst behind
+        (now (cells .entry)) r (now (cells .exit)) ⌝ }
 {
     let w = ids.len();
     let mut inside = [0u32; 256];
     inner_env(&mut inside, env, ids, &cells[src..src + w]);
     let k = eval(set, plan, inner, &mut cells[behind..], &inside);
-    emit_row(node, cells, own, src, ids, dst, behind, k, jds, &inside)
+    emit_row(node, cells, src, ids, dst, behind, k, jds, &inside)
 }
 
 // Gives the rows of each of m left rows at `own`, at the front.
@@ -195,10 +195,12 @@ fn nested_loop(
     jds: &[u8],
     env: &[u32],
 ) -> usize
-    requires { ⌜ (arity (operatorOf node) ≡ 2) × (now jds ≡ columns (tablesOf (now set)) (planAt (now plan) inner)) × (m * emittedMost (operatorOf node) (bound (tablesOf (now set)) (planAt (now plan) inner)) ≤ 4096) × (length (now ids) ≤ 32) ⌝ }
-    requires { ⌜ (m * emittedMost (operatorOf node) (bound (tablesOf (now set)) (planAt (now plan) inner)) * length (emittedColumns (operatorOf node) (now ids) (now jds)) ≤ own) × (own + m * length (now ids) ≤ behind) × (behind ≤ length (now cells)) ⌝ }
-    requires { ⌜ Ready (tablesOf (now set)) (planAt (now plan) inner) (length (now cells) - behind) (length (now env)) ⌝ }
-    ensures { λ r. ⌜ Gives (flatMap (nestedRow (tablesOf (now (set .entry))) (operatorOf node) (now (ids .entry)) (planAt (now (plan .entry)) inner) (envOf (now (env .entry)))) (chunk m (length (now (ids .entry))) (drop own (now (cells .entry))))) (length (emittedColumns (operatorOf node) (now (ids .entry)) (now (jds .entry)))) (m * emittedMost (operatorOf node) (bound (tablesOf (now (set .entry))) (planAt (now (plan .entry)) inner))) r (now (cells .exit)) ⌝ }
+    requires { ⌜ (arity (operatorOf node) ≡ 2) × (now jds ≡ columnsAt (now set) (now plan) inner) × (length (now ids) ≤ 32) × (behind ≤ length (now cells)) ⌝ }
+    requires { ⌜ m * emittedMost (operatorOf node) (boundAt (now set) (now plan) inner) ≤ 4096 ⌝ }
+    requires { ⌜ LoopRoom (operatorOf node) (now ids) (now jds) (boundAt (now set) (now plan) inner) own m behind ⌝ }
+    requires { ⌜ ReadyAt (now set) (now plan) inner (length (now cells) - behind) (length (now env)) ⌝ }
+    ensures { λ r. ⌜ NestedGiven (now (set .entry)) (now (plan .entry)) inner (operatorOf node) (now (ids .entry)) (now (env .entry)) own m
+        (now (cells .entry)) r (now (cells .exit)) ⌝ }
 {
     let w = ids.len();
     let wo = emitted_width(node, ids, jds);
@@ -213,7 +215,6 @@ fn nested_loop(
             inner,
             node,
             cells,
-            own,
             src,
             ids,
             dst,
@@ -242,10 +243,13 @@ fn nested_at(
     behind: usize,
     env: &[u32],
 ) -> usize
-    requires { ⌜ Sound (tablesOf (now set)) (planAt (now plan) left) × (arity (operatorOf node) ≡ 2) × (m * emittedMost (operatorOf node) (bound (tablesOf (now set)) (planAt (now plan) inner)) ≤ 4096) ⌝ }
-    requires { ⌜ (m * emittedMost (operatorOf node) (bound (tablesOf (now set)) (planAt (now plan) inner)) * length (emittedColumns (operatorOf node) (columns (tablesOf (now set)) (planAt (now plan) left)) (columns (tablesOf (now set)) (planAt (now plan) inner))) ≤ own) × (own + m * width (tablesOf (now set)) (planAt (now plan) left) ≤ behind) × (behind ≤ length (now cells)) ⌝ }
-    requires { ⌜ Ready (tablesOf (now set)) (planAt (now plan) inner) (length (now cells) - behind) (length (now env)) ⌝ }
-    ensures { λ r. ⌜ Gives (flatMap (nestedRow (tablesOf (now (set .entry))) (operatorOf node) (columns (tablesOf (now (set .entry))) (planAt (now (plan .entry)) left)) (planAt (now (plan .entry)) inner) (envOf (now (env .entry)))) (chunk m (width (tablesOf (now (set .entry))) (planAt (now (plan .entry)) left)) (drop own (now (cells .entry))))) (length (emittedColumns (operatorOf node) (columns (tablesOf (now (set .entry))) (planAt (now (plan .entry)) left)) (columns (tablesOf (now (set .entry))) (planAt (now (plan .entry)) inner)))) (m * emittedMost (operatorOf node) (bound (tablesOf (now (set .entry))) (planAt (now (plan .entry)) inner))) r (now (cells .exit)) ⌝ }
+    requires { ⌜ SoundAt (now set) (now plan) left × (arity (operatorOf node) ≡ 2) × (behind ≤ length (now cells)) ⌝ }
+    requires { ⌜ m * emittedMost (operatorOf node) (boundAt (now set) (now plan) inner) ≤ 4096 ⌝ }
+    requires { ⌜ LoopRoom (operatorOf node) (columnsAt (now set) (now plan) left) (columnsAt (now set) (now plan) inner)
+        (boundAt (now set) (now plan) inner) own m behind ⌝ }
+    requires { ⌜ ReadyAt (now set) (now plan) inner (length (now cells) - behind) (length (now env)) ⌝ }
+    ensures { λ r. ⌜ NestedGiven (now (set .entry)) (now (plan .entry)) inner (operatorOf node) (columnsAt (now (set .entry)) (now (plan .entry)) left)
+        (now (env .entry)) own m (now (cells .entry)) r (now (cells .exit)) ⌝ }
 {
     let mut ids = [0u8; 32];
     let w = columns_into(set, plan, left, &mut ids);
@@ -266,10 +270,11 @@ fn nested_at(
     )
 }
 
-// The rows of the tree at a place, at the front of cells; its children's rows stand behind them.
+// The rows of the tree at a place, at the front of cells. Its region stands there, and its first child's part behind it; a node without a
+// region works in place. Behind the first child's whole part stands the second's.
 pub(crate) fn eval(set: &[u8], plan: &[u8], at: usize, cells: &mut [u32], env: &[u32]) -> usize
-    requires { ⌜ Ready (tablesOf (now set)) (planAt (now plan) at) (length (now cells)) (length (now env)) ⌝ }
-    ensures { λ r. ⌜ Gives (evaluate (tablesOf (now (set .entry))) (planAt (now (plan .entry)) at) (envOf (now (env .entry)))) (width (tablesOf (now (set .entry))) (planAt (now (plan .entry)) at)) (bound (tablesOf (now (set .entry))) (planAt (now (plan .entry)) at)) r (now (cells .exit)) ⌝ }
+    requires { ⌜ ReadyAt (now set) (now plan) at (length (now cells)) (length (now env)) ⌝ }
+    ensures { λ r. ⌜ TreeGiven (now (set .entry)) (now (plan .entry)) at (now (env .entry)) r (now (cells .exit)) ⌝ }
 {
     if nodes_of(plan) <= at {
         return 1;
@@ -279,14 +284,14 @@ pub(crate) fn eval(set: &[u8], plan: &[u8], at: usize, cells: &mut [u32], env: &
     if children == 0 {
         return leaf(set, node, cells);
     }
-    let own = region_at(set, plan, at);
+    let own = region_at(set, plan, at, node);
     let left = at + 1;
     let m = eval(set, plan, left, &mut cells[own..], env);
     if children == 1 {
         return unary_at(set, plan, left, node, cells, own, m, env);
     }
     let right = tree_end(plan, left);
-    let behind = own + region_at(set, plan, left);
+    let behind = own + tree_part(set, plan, left);
     if is_nested(node) {
         return nested_at(set, plan, left, right, node, cells, own, m, behind, env);
     }

@@ -2,12 +2,11 @@
 ghost use mathlib.Core.Path.{_≡_};
 ghost use mathlib.Core.List.{[], _∷_};
 ghost use Prim.Native.Nat.{_+_, _*_, _≤_};
-ghost use lib.ListN.{length, take, drop};
+ghost use lib.ListN.{length, take};
 ghost use lib.Seq.{paste};
 ghost use Rattle.algebra.specs.Lists.{same, any};
-ghost use Rattle.algebra.specs.Plans.{bind};
 ghost use Rattle.reading.specs.Tree.{operatorOf};
-ghost use Rattle.reporting.specs.Rows.{chunk, envOf, gathered, acted, Gives};
+ghost use Rattle.reporting.specs.Rows.{chunk, rowsFrom, envOf, keyEnv, gathered, acted, Gives};
 use crate::env::column;
 use crate::env::inner_env;
 use crate::gather::gather;
@@ -33,7 +32,8 @@ fn key_given(cells: &[u32], k: usize, key: u32) -> bool
 // The aggregate of one key: over those of m rows that pass the node, the key standing under the left key's id.
 fn key_value(node: Node, key: u32, rows: &[u32], m: usize, ids: &[u8], env: &[u32]) -> u32
     requires { ⌜ (m * length (now ids) ≤ length (now rows)) × (m ≤ 4096) × (length (now env) ≡ 256) ⌝ }
-    ensures { λ r. ⌜ r ≡ gathered (operatorOf node) (now (ids .entry)) (bind (node .left ∷ []) (key ∷ []) (envOf (now (env .entry)))) (chunk m (length (now (ids .entry))) (now (rows .entry))) ⌝ }
+    ensures { λ r. ⌜ r ≡ gathered (operatorOf node) (now (ids .entry)) (keyEnv (node .left) key (now (env .entry)))
+        (chunk m (length (now (ids .entry))) (now (rows .entry))) ⌝ }
 {
     let mut inside = [0u32; 256];
     let left = [node.left];
@@ -55,7 +55,8 @@ fn give_key(
 )
     requires { ⌜ (m ≤ 4096) × (length (now env) ≡ 256) ⌝ }
     requires { ⌜ (dst + 2 ≤ own) × (own + m * length (now ids) ≤ length (now cells)) ⌝ }
-    ensures { λ _. ⌜ now (cells .exit) ≡ paste (now (cells .entry)) dst (key ∷ gathered (operatorOf node) (now (ids .entry)) (bind (node .left ∷ []) (key ∷ []) (envOf (now (env .entry)))) (chunk m (length (now (ids .entry))) (drop own (now (cells .entry)))) ∷ []) 2 ⌝ }
+    ensures { λ _. ⌜ now (cells .exit) ≡ paste (now (cells .entry)) dst (key ∷ gathered (operatorOf node) (now (ids .entry))
+        (keyEnv (node .left) key (now (env .entry))) (rowsFrom own m (length (now (ids .entry))) (now (cells .entry))) ∷ []) 2 ⌝ }
 {
     let value = key_value(node, key, &cells[own..], m, ids, env);
     cells[dst] = key;
@@ -73,7 +74,8 @@ pub(crate) fn group(
 ) -> usize
     requires { ⌜ (node .kind ≡ 13) × (length (now env) ≡ 256) × (m ≤ 4096) ⌝ }
     requires { ⌜ (m * 2 ≤ own) × (own + m * length (now ids) ≤ length (now cells)) ⌝ }
-    ensures { λ r. ⌜ Gives (acted (operatorOf node) (now (ids .entry)) (envOf (now (env .entry))) (chunk m (length (now (ids .entry))) (drop own (now (cells .entry))))) 2 m r (now (cells .exit)) ⌝ }
+    ensures { λ r. ⌜ Gives (acted (operatorOf node) (now (ids .entry)) (envOf (now (env .entry)))
+        (rowsFrom own m (length (now (ids .entry))) (now (cells .entry)))) 2 m r (now (cells .exit)) ⌝ }
 {
     let w = ids.len();
     let right = node.right;

@@ -1,36 +1,50 @@
 // Unit and Scan.
 ghost use mathlib.Core.Path.{_≡_};
 ghost use mathlib.Core.List.{map};
-ghost use Prim.Native.Nat.{_*_, _≤_};
+ghost use Prim.Native.Nat.{_*_, _/_, _≤_};
 ghost use lib.ListN.{length, take};
 ghost use Rattle.algebra.specs.Lists.{upward};
-ghost use Rattle.reading.specs.TableSet.{columnsOf, rowsOf, cellAt, tableFrom, tableRows, tablesOf};
+ghost use Rattle.reading.specs.TableSet.{columnsOf, rowsOf, cellAt, tableFrom, tablesOf};
 ghost use Rattle.reading.specs.Tree.{operatorOf};
-ghost use Rattle.reporting.specs.Rows.{Gives};
-ghost use Rattle.reporting.specs.Evaluation.{leafGiven, leafWidth, leafMost};
+ghost use Rattle.reporting.specs.Evaluation.{leafWidth, leafMost, TableGiven, LeafGiven};
+use crate::emit::blanks;
 use reading::plan::Node;
-use reading::set::cell;
 use reading::set::columns_of;
 use reading::set::rows_of;
 use reading::set::table_cells;
 use reading::set::table_from;
+use reading::set::word;
 
-// Writes the first n cells of a table to the front.
-fn cells_in(cells: &mut [u32], from: &[u8], n: usize)
-    requires { ⌜ n ≤ length (now cells) ⌝ }
+// Writes the first n cells of a table to the front, where the table has that many.
+fn words_in(cells: &mut [u32], from: &[u8], n: usize)
+    requires { ⌜ (n ≤ length (now cells)) × (n ≤ length (now from) / 4) ⌝ }
     ensures { λ _. ⌜ take n (now (cells .exit)) ≡ map (cellAt (now (from .entry))) (upward n 0) ⌝ }
 {
     let mut i = 0;
     while i < n {
-        cells[i] = cell(from, i);
+        let at = 4 * i;
+        cells[i] = word(from[at], from[at + 1], from[at + 2], from[at + 3]);
         i += 1;
     }
+}
+
+// Writes the first n cells of a table to the front. Past the last cell they are blank; no table of a set that was accepted comes to that.
+fn cells_in(cells: &mut [u32], from: &[u8], n: usize)
+    requires { ⌜ n ≤ length (now cells) ⌝ }
+    ensures { λ _. ⌜ take n (now (cells .exit)) ≡ map (cellAt (now (from .entry))) (upward n 0) ⌝ }
+{
+    let mut whole = from.len() / 4;
+    if n < whole {
+        whole = n;
+    }
+    words_in(cells, from, whole);
+    blanks(cells, whole, n - whole);
 }
 
 // The rows of table t, at the front.
 fn scan(set: &[u8], t: usize, cells: &mut [u32]) -> usize
     requires { ⌜ rowsOf (tableFrom t (now set)) * columnsOf (tableFrom t (now set)) ≤ length (now cells) ⌝ }
-    ensures { λ r. ⌜ Gives (tableRows (tableFrom t (now (set .entry)))) (columnsOf (tableFrom t (now (set .entry)))) (rowsOf (tableFrom t (now (set .entry)))) r (now (cells .exit)) ⌝ }
+    ensures { λ r. ⌜ TableGiven (tableFrom t (now (set .entry))) r (now (cells .exit)) ⌝ }
 {
     let table = table_from(set, t);
     let rows = rows_of(table);
@@ -42,7 +56,7 @@ fn scan(set: &[u8], t: usize, cells: &mut [u32]) -> usize
 // The rows of a node with no children, at the front of cells; a kind with children gives none.
 pub(crate) fn leaf(set: &[u8], node: Node, cells: &mut [u32]) -> usize
     requires { ⌜ leafMost (tablesOf (now set)) (operatorOf node) * leafWidth (tablesOf (now set)) (operatorOf node) ≤ length (now cells) ⌝ }
-    ensures { λ r. ⌜ Gives (leafGiven (tablesOf (now (set .entry))) (operatorOf node)) (leafWidth (tablesOf (now (set .entry))) (operatorOf node)) (leafMost (tablesOf (now (set .entry))) (operatorOf node)) r (now (cells .exit)) ⌝ }
+    ensures { λ r. ⌜ LeafGiven (now (set .entry)) (operatorOf node) r (now (cells .exit)) ⌝ }
 {
     let kind = node.kind;
     if kind == 1 {

@@ -30,7 +30,8 @@ pub(crate) fn refused(number: u8) -> Report
 fn run(set: &[u8], plan: &[u8], out: &mut [i32], scratch: &mut [u32]) -> Report
     requires { ⌜ inputRefusal (now set) (now plan) ≡ 0 ⌝ }
     requires { ⌜ need (tablesOf (now set)) (planOf (now plan)) ≤ length (now scratch) ⌝ }
-    ensures { λ r. ⌜ Reported (now (set .entry)) (now (plan .entry)) (now (out .entry)) (now (out .exit)) (now (scratch .entry)) (replicate (length (now (scratch .entry))) 0) r ⌝ }
+    ensures { λ r. ⌜ Reported (now (set .entry)) (now (plan .entry)) (now (out .entry)) (now (out .exit)) (now (scratch .entry))
+        (replicate (length (now (scratch .entry))) 0) r ⌝ }
 {
     let outside = [0u32; 256];
     let rows = eval(set, plan, 0, scratch, &outside);
@@ -57,7 +58,8 @@ fn report_accepted(
 ) -> Report
     requires { ⌜ inputRefusal (now set) (now plan) ≡ 0 ⌝ }
     requires { ⌜ cells ≡ need (tablesOf (now set)) (planOf (now plan)) ⌝ }
-    ensures { λ r. ⌜ Reported (now (set .entry)) (now (plan .entry)) (now (out .entry)) (now (out .exit)) (now (scratch .entry)) (replicate (length (now (scratch .entry))) 0) r ⌝ }
+    ensures { λ r. ⌜ Reported (now (set .entry)) (now (plan .entry)) (now (out .entry)) (now (out .exit)) (now (scratch .entry))
+        (replicate (length (now (scratch .entry))) 0) r ⌝ }
 {
     if scratch.len() < cells {
         return refused(16);

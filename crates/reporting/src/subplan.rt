@@ -22,7 +22,8 @@ use reading::plan::Test;
 // The number by which a call is turned back: 1 to 14, or 16, which leaves scratch all zero; else 0, and scratch is left as it was.
 fn turned_back(set: &[u8], plan: &[u8], scratch: &mut [u32]) -> u8
     ensures { λ r. ⌜ r ≡ rowsNumber (now (set .entry)) (now (plan .entry)) (length (now (scratch .entry))) ⌝ }
-    ensures { λ _. ⌜ now (scratch .exit) ≡ rowsLeft (inputRefusal (now (set .entry)) (now (plan .entry))) (scratchNumber (now (set .entry)) (now (plan .entry)) (length (now (scratch .entry)))) (now (scratch .entry)) (now (scratch .entry)) ⌝ }
+    ensures { λ _. ⌜ now (scratch .exit) ≡ rowsLeft (inputRefusal (now (set .entry)) (now (plan .entry)))
+        (scratchNumber (now (set .entry)) (now (plan .entry)) (length (now (scratch .entry)))) (now (scratch .entry)) (now (scratch .entry)) ⌝ }
 {
     match check_input(set, plan) {
         Checked::Refused(number) => number,
@@ -91,7 +92,8 @@ fn distinct_of(id: u8) -> Node
 // As rows_at, for a Distinct of one column over the tree at a place. The need's 4,096 cells besides the regions hold the Distinct rows: they
 // are no more than the tree's bound, which is at most 4,096.
 pub fn keys_at(set: &[u8], plan: &[u8], place: usize, id: u8, scratch: &mut [u32]) -> Report
-    ensures { λ r. ⌜ RowsGiven (now (set .entry)) (now (plan .entry)) (one (distinct (id ∷ [])) (planAt (now (plan .entry)) place)) (now (scratch .entry)) (now (scratch .exit)) r ⌝ }
+    ensures { λ r. ⌜ RowsGiven (now (set .entry)) (now (plan .entry)) (one (distinct (id ∷ [])) (planAt (now (plan .entry)) place))
+        (now (scratch .entry)) (now (scratch .exit)) r ⌝ }
 {
     let number = turned_back(set, plan, scratch);
     if number != 0 {

@@ -121,7 +121,8 @@ pub(crate) fn any_row(
     env: &[u32],
 ) -> bool
     requires { ⌜ (k * length (now ids) ≤ length (now rows)) × (length (now env) ≡ 256) ⌝ }
-    ensures { λ r. ⌜ r ≡ any (λ q. flip mark (passing (operatorOf node) (bind (now (ids .entry)) q (envOf (now (env .entry)))))) (chunk k (length (now (ids .entry))) (now (rows .entry))) ⌝ }
+    ensures { λ r. ⌜ r ≡ any (λ q. flip mark (passing (operatorOf node) (bind (now (ids .entry)) q (envOf (now (env .entry))))))
+        (chunk k (length (now (ids .entry))) (now (rows .entry))) ⌝ }
 {
     let w = ids.len();
     let mut i = 0;

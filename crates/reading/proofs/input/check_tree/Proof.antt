@@ -10,6 +10,7 @@ use Rattle.reading.specs.Tree.{operatorAt, planAt, planOf, wholeTree}
 use Rattle.reading.specs.Nodes.{idsOf}
 use Rattle.reading.specs.declared.input.Checked.the-variants.{Accepted}
 use Rattle.reading.proofs.FlagLaws.{flags-none}
+use Rattle.reading.proofs.Places.{whole-all}
 use Rattle.reading.proofs.Acceptance.{check-tree, check-11, check-12-once, check-12-view, check-13, check-14, check-passed}
 use borrow.Author.Needs.{needs}
 use Rattle.reading.proofs.input.check_tree.Statement.{statement}
@@ -110,7 +111,10 @@ returns-6 c =
 
 -- src/input.rt:57:15
 need-of-requires : tie.Need-need-of-requires
-need-of-requires c κs = (whole (c .before .before .before .before .before .before .before .before .before .before), (narrow-all (c .before .before), low-all (c)))
+need-of-requires c κs =
+    let a = c .before .before .before .before .before .before .before .before .before .before .before .before .before .before .args in
+    let w = whole (c .before .before .before .before .before .before .before .before .before .before) in
+    (whole-all (a .plan .now) w (narrow (tablesOf (a .set .now))) ∙ narrow-all (c .before .before), whole-all (a .plan .now) w (low (tablesOf (a .set .now))) ∙ low-all c)
 
 -- src/input.rt:32:1
 returns-7 : tie.Need-returns-7

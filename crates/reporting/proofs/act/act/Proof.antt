@@ -8,8 +8,9 @@ use lib.ListN.{length, take, drop}
 use Rattle.algebra.specs.Plans.{Row, cut}
 use Rattle.reading.specs.Tree.{operatorOf, nodeList}
 use Rattle.reporting.specs.Rows.{chunk, envOf, Gives, SortedBy, actedColumns}
+use Rattle.reporting.specs.Evaluation.{CutsRoom}
 use Rattle.reporting.proofs.Acts.{select-acts, project-acts}
-use Rattle.reporting.proofs.ListActs.{distinct-kind, select-columns, group-columns, sort-columns, list-columns, group-acts, sort-acts, distinct-acts}
+use Rattle.reporting.proofs.ListActs.{distinct-kind, group-columns, sort-columns, group-region, sort-region, list-columns, group-acts, sort-acts, distinct-acts}
 use borrow.Author.Needs.{needs}
 use Rattle.reporting.proofs.act.act.Statement.{statement}
 use Rattle.reporting.proofs.act.act.Tie as tie
@@ -29,10 +30,7 @@ cut-rows c =
 
 -- src/act.rt:31:9
 select-requires : tie.Need-select-requires
-select-requires c κs =
-    let a = c .before .before .before .before .before .args in
-    let e = ap (λ (l : List ℕ). a .m * length l) (select-columns (a .node) (a .ids .now) (c .before .if1 .taken)) in
-    (c .before .before .before .before .before .pre .0 .1, (omega (arith, c .before .before .before .before .before .pre .1 .0), c .before .before .before .before .before .pre .1 .1))
+select-requires c κs = (c .before .before .before .before .before .pre .0 .1, c .before .before .before .before .before .pre .1 .cuts .inside)
 
 -- src/act.rt:31:9
 same-length : tie.Need-same-length
@@ -48,8 +46,9 @@ returns c =
 group-requires : tie.Need-group-requires
 group-requires c κs =
     let a = c .before .before .before .before .before .before .args in
+    let p = c .before .before .before .before .before .before .pre in
     let e : a .m * length (actedColumns (operatorOf (a .node)) (a .ids .now)) ≡ a .m * 2 = ap (λ (l : List ℕ). a .m * length l) (group-columns (a .node) (a .ids .now) (c .before .if2 .taken)) in
-    ((c .before .if2 .taken, c .before .before .before .before .before .before .pre .0 .1, c .before .before .before .before .before .before .pre .0 .2), (omega (arith, c .before .before .before .before .before .before .pre .1 .0), c .before .before .before .before .before .before .pre .1 .1))
+    ((c .before .if2 .taken, p .0 .1, p .0 .2), (omega (arith, rw (group-region (a .node) (a .ids .now) (c .before .if2 .taken)) at (p .1 .region)), p .1 .cuts .inside))
 
 -- src/act.rt:34:9
 same-length-2 : tie.Need-same-length-2
@@ -83,9 +82,10 @@ part-sort-by-end c =
 sort-by-requires : tie.Need-sort-by-requires
 sort-by-requires c κs =
     let a = c .before .before .before .before .before .before .before .before .before .before .before .before .args in
+    let p = c .before .before .before .before .before .before .before .before .before .before .before .before .pre in
     let l = c .before .before .before .before .before .list-length in
     let e = ap (λ (x : List ℕ). a .m * length x) (sort-columns (a .node) (a .ids .now) (c .before .before .before .before .if3 .taken)) in
-    ((c .before .before .before .before .before .before .before .before .before .before .before .before .pre .0 .3, omega (arith, ap length (part (c .before .before .before .before .before)), l .ensures .0, l .ensures .1)), (omega (arith, c .before .before .before .before .before .before .before .before .before .before .before .before .pre .1 .0), c .before .before .before .before .before .before .before .before .before .before .before .before .pre .1 .1))
+    ((p .0 .3, omega (arith, ap length (part (c .before .before .before .before .before)), l .ensures .0, l .ensures .1)), (omega (arith, rw (sort-region (a .node) (a .ids .now) (c .before .before .before .before .if3 .taken)) at (p .1 .region)), p .1 .cuts .inside))
 
 -- src/act.rt:39:9
 same-length-3 : tie.Need-same-length-3
@@ -118,7 +118,8 @@ part-project-end c =
 project-requires : tie.Need-project-requires
 project-requires c κs =
     let a = c .before .before .before .before .before .before .before .before .before .before .before .args in
-    (c .before .before .before .before .before .before .before .before .before .before .before .pre .0 .1, (omega (arith, ap (λ (x : List ℕ). a .m * length x) (part (c .before .before .before .before) ∙ sym (columns (c .before .before .before))), c .before .before .before .before .before .before .before .before .before .before .before .pre .1 .0), c .before .before .before .before .before .before .before .before .before .before .before .pre .1 .1))
+    let p = c .before .before .before .before .before .before .before .before .before .before .before .pre in
+    (p .0 .1, subst (λ (x : List ℕ). CutsRoom (length (a .ids .now)) (length x) (a .own) (a .m) (length (a .cells .now))) (columns (c .before .before .before) ∙ sym (part (c .before .before .before .before))) (p .1 .cuts))
 
 -- src/act.rt:43:9
 same-length-4 : tie.Need-same-length-4
@@ -135,10 +136,11 @@ returns-4 c =
 distinct-front-requires : tie.Need-distinct-front-requires
 distinct-front-requires c κs =
     let a = c .before .before .before .before .before .before .before .before .before .before .before .before .before .before .before .before .args in
+    let q = c .before .before .before .before .before .before .before .before .before .before .before .before .before .before .before .before .pre .1 in
     let l = c .before .before .before .before .before .before .before .before .before .list-length in
     let p = c .before .before .before .before .project in
     let n : a .m * l .result ≡ a .m * length (actedColumns (operatorOf (a .node)) (a .ids .now)) = ap (λ (x : ℕ). a .m * x) (l .ensures .1 ∙ ap length (sym (columns (c .before .before .before .before .before .before .before .before)))) in
-    omega (arith, mul-le-mul-right (l .result) (p .ensures .few), c .before .before .before .before .before .before .before .before .before .before .before .before .before .before .before .before .pre .1 .0, c .before .before .before .before .before .before .before .before .before .before .before .before .before .before .before .before .pre .1 .1, p .kept .0)
+    omega (arith, mul-le-mul-right (l .result) (p .ensures .few), q .cuts .ends, q .cuts .inside, p .kept .0)
 
 -- src/act.rt:17:1
 same-length-5 : tie.Need-same-length-5

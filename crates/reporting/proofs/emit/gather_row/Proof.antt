@@ -6,52 +6,52 @@ use lib.ListN.{length, take, drop, length-drop}
 use Rattle.reading.specs.Tree.{operatorOf}
 use Rattle.reporting.specs.Rows.{chunk, envOf, gathered}
 use Rattle.reporting.proofs.Copies.{written-copy, written-more, written-as}
-use Rattle.reporting.proofs.Emits.{tail-part}
+use Rattle.reporting.proofs.Lent.{tail-part}
 use borrow.Author.Needs.{needs}
 use Rattle.reporting.proofs.emit.gather_row.Statement.{statement}
 use Rattle.reporting.proofs.emit.gather_row.Tie as tie
 
--- src/emit.rt:92:29
+-- src/emit.rt:108:29
 mul-gather : tie.Need-mul-gather
 mul-gather c = search needs
 
--- src/emit.rt:92:29
+-- src/emit.rt:108:29
 sub-gather : tie.Need-sub-gather
 sub-gather c = search needs
 
--- src/emit.rt:92:29
+-- src/emit.rt:108:29
 part-gather-start : tie.Need-part-gather-start
 part-gather-start c = search needs
 
--- src/emit.rt:92:29
+-- src/emit.rt:108:29
 part-gather-end : tie.Need-part-gather-end
 part-gather-end c = search needs
 
--- src/emit.rt:92:9
+-- src/emit.rt:108:9
 gather-requires : tie.Need-gather-requires
 gather-requires c κs = search needs
 
--- src/emit.rt:93:5
+-- src/emit.rt:109:5
 copy-row-requires : tie.Need-copy-row-requires
 copy-row-requires c κs = search needs
 
--- src/emit.rt:94:11
+-- src/emit.rt:110:11
 add-cells : tie.Need-add-cells
 add-cells c = search needs
 
--- src/emit.rt:94:5
+-- src/emit.rt:110:5
 mul-cells : tie.Need-mul-cells
 mul-cells c = search needs
 
--- src/emit.rt:94:5
+-- src/emit.rt:110:5
 slice-write-cells : tie.Need-slice-write-cells
 slice-write-cells c = search needs
 
--- src/emit.rt:87:1
+-- src/emit.rt:93:1
 same-length : tie.Need-same-length
 same-length c = search needs
 
--- src/emit.rt:87:1
+-- src/emit.rt:93:1
 returns : tie.Need-returns
 returns c =
     let a = c .before .before .before .before .before .before .before .before .before .before .args in

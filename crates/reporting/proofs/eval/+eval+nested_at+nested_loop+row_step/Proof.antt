@@ -39,7 +39,7 @@ pub +eval+nested-at+nested-loop+row-step-spec : {M : Type 1} → statement M
     (Eval.same-length-2 t)
     (Eval.returns-3 t)
     (Eval.tree-end-requires t)
-    (Eval.region-at-requires-2 t)
+    (Eval.tree-part-requires t)
     (Eval.add-behind t)
     (Eval.is-nested-requires t)
     (Eval.nested-at-requires t)

@@ -17,43 +17,43 @@ use Rattle.reporting.proofs.group.give_key.Reads as reads
 use Rattle.reporting.proofs.group.give_key.Lts as lts
 use Rattle.reporting.proofs.group.key_value.Reads as key-value-reads
 
--- src/group.rt:60:38
+-- src/group.rt:61:38
 mul-key-value : tie.Need-mul-key-value
 mul-key-value c = search needs
 
--- src/group.rt:60:38
+-- src/group.rt:61:38
 sub-key-value : tie.Need-sub-key-value
 sub-key-value c = search needs
 
--- src/group.rt:60:38
+-- src/group.rt:61:38
 part-key-value-start : tie.Need-part-key-value-start
 part-key-value-start c = search needs
 
--- src/group.rt:60:38
+-- src/group.rt:61:38
 part-key-value-end : tie.Need-part-key-value-end
 part-key-value-end c = search needs
 
--- src/group.rt:60:9
+-- src/group.rt:61:9
 key-value-requires : tie.Need-key-value-requires
 key-value-requires c κs = search needs
 
--- src/group.rt:61:5
+-- src/group.rt:62:5
 mul-cells : tie.Need-mul-cells
 mul-cells c = search needs
 
--- src/group.rt:61:5
+-- src/group.rt:62:5
 slice-write-cells : tie.Need-slice-write-cells
 slice-write-cells c = search needs
 
--- src/group.rt:62:11
+-- src/group.rt:63:11
 add-cells : tie.Need-add-cells
 add-cells c = search needs
 
--- src/group.rt:62:5
+-- src/group.rt:63:5
 mul-cells-2 : tie.Need-mul-cells-2
 mul-cells-2 c = search needs
 
--- src/group.rt:62:5
+-- src/group.rt:63:5
 slice-write-cells-2 : tie.Need-slice-write-cells-2
 slice-write-cells-2 c = rw length-set (omega arith)
 

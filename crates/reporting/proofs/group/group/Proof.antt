@@ -31,7 +31,7 @@ in-row c =
     let l = c .before .loop in
     omega (arith, turns (a .m) (length (a .ids .now)) (l .i) (c .loop-test .taken), l .inv .few, l .inv .src-at, l .inv .dst-at, l .inv .long, c .before .before .before .before .before .pre .1)
 
--- src/group.rt:84:5
+-- src/group.rt:86:5
 loop-holds : tie.Need-loop-holds Inv-loop μ-loop
 loop-holds c =
     let a = c .before .before .before .args in
@@ -40,62 +40,62 @@ loop-holds c =
     let rows : List Row = chunk (a .m) (length cs) (drop (a .own) (a .cells .now)) in
     grouping-start (keyOf (a .node) cs env) (valueOf (a .node) cs env rows) (acted (operatorOf (a .node)) cs env rows) (a .m) (length cs) (a .own) (a .cells .now) (group-rows (a .node) cs env rows (c .before .before .before .pre .0 .0))
 
--- src/group.rt:85:43
+-- src/group.rt:87:43
 add-column : tie.Need-add-column Inv-loop μ-loop
 add-column c = omega (arith, in-row (c) .0, c .before .before .before .before .before .good)
 
--- src/group.rt:85:31
+-- src/group.rt:87:31
 mul-column : tie.Need-mul-column Inv-loop μ-loop
 mul-column c = omega (arith, in-row (c) .0, c .before .before .before .before .before .good)
 
--- src/group.rt:85:31
+-- src/group.rt:87:31
 sub-column : tie.Need-sub-column Inv-loop μ-loop
 sub-column c = omega (arith, in-row (c) .0, c .before .before .before .before .before .good)
 
--- src/group.rt:85:31
+-- src/group.rt:87:31
 part-column-start : tie.Need-part-column-start Inv-loop μ-loop
 part-column-start c = omega (arith, in-row (c .before) .0, c .before .before .before .before .before .before .good)
 
--- src/group.rt:85:31
+-- src/group.rt:87:31
 part-column-end : tie.Need-part-column-end Inv-loop μ-loop
 part-column-end c = omega (arith, in-row (c .before) .0, c .before .before .before .before .before .before .good)
 
--- src/group.rt:85:13
+-- src/group.rt:87:13
 column-requires : tie.Need-column-requires Inv-loop μ-loop
 column-requires c κs =
     let a = c .before .before .before .before .before .before .before .args in
     let l = c .before .before .before .loop in
     (sym (part-length (l .src) (length (a .ids .now)) (l .cells) (in-row (c .before .before) .0)), c .before .before .before .before .before .before .before .pre .0 .1)
 
--- src/group.rt:86:13
+-- src/group.rt:88:13
 key-given-requires : tie.Need-key-given-requires Inv-loop μ-loop
 key-given-requires c κs = in-row (c .before .before .before .before) .1
 
--- src/group.rt:87:13
+-- src/group.rt:89:13
 give-key-requires : tie.Need-give-key-requires Inv-loop μ-loop
 give-key-requires c κs = omega (arith, in-row (c .before .before .before .before .before .before .before) .2, c .before .before .before .before .before .before .before .before .before .before .before .before .pre, c .before .before .before .before .before .before .before .before .loop .inv .long)
 
--- src/group.rt:88:13
+-- src/group.rt:90:13
 add-out : tie.Need-add-out Inv-loop μ-loop
 add-out c = omega (arith, in-row (c .before .before .before .before .before .before .before .before .before .before), c .before .before .before .before .before .before .before .before .before .before, c .before .before .before .before .before .before .before .before .before .before .before .before .before .before .before .good, c .before .before .before .before .before .before .before .before .before .before .before .loop .inv .few)
 
--- src/group.rt:89:13
+-- src/group.rt:91:13
 add-dst : tie.Need-add-dst Inv-loop μ-loop
 add-dst c = omega (arith, in-row (c .before .before .before .before .before .before .before .before .before .before), c .before .before .before .before .before .before .before .before .before .before, c .before .before .before .before .before .before .before .before .before .before .before .before .before .before .before .good, c .before .before .before .before .before .before .before .before .before .before .before .loop .inv .few)
 
--- src/group.rt:91:9
+-- src/group.rt:93:9
 add-i : tie.Need-add-i Inv-loop μ-loop
 add-i c = omega (arith, c .before .before .before .before .before .before)
 
--- src/group.rt:92:9
+-- src/group.rt:94:9
 add-src : tie.Need-add-src Inv-loop μ-loop
 add-src c = omega (arith, in-row (c .before .before .before .before .before .before), c .before .before .before .before .before .before, c .before .before .before .before .before .before .before .before .before .before .before .good, c .before .before .before .before .before .before .before .loop .inv .few)
 
--- src/group.rt:84:5
+-- src/group.rt:86:5
 loop-less : tie.Need-loop-less Inv-loop μ-loop
 loop-less c = omega (arith, c .before .before .before .before .before .before)
 
--- src/group.rt:84:5
+-- src/group.rt:86:5
 loop-again : tie.Need-loop-again Inv-loop μ-loop
 loop-again c =
     let a = c .before .before .before .before .before .before .before .before .before .before .before .args in
@@ -119,11 +119,11 @@ loop-again c =
     (sym says ∙ not-false r (v .0 .left)) (v .1) (v .2) (v .3))
     (c .if1 .came)
 
--- src/group.rt:66:1
+-- src/group.rt:67:1
 same-length : tie.Need-same-length Inv-loop μ-loop
 same-length c = c .before .loop .inv .long
 
--- src/group.rt:66:1
+-- src/group.rt:67:1
 returns : tie.Need-returns Inv-loop μ-loop
 returns c =
     let a = c .before .before .before .before .before .args in

@@ -1,73 +1,42 @@
-use Prim.Native.Nat.{_-_, _≤_}
+use Prim.Native.Nat.{ℕ, _/_, _≤_, _<_}
+use mathlib.Core.Logic.{⊎-elim}
 use native.Mathlib.Omega.{arith}
-use mathlib.Core.Path.{_≡_, refl}
-use mathlib.Core.List.{map}
-use lib.ListN.{length, take, length-set}
-use Rattle.algebra.specs.Lists.{upward}
-use Rattle.reading.specs.TableSet.{cellAt}
-use Rattle.reporting.proofs.TableRows.{next-cell}
+use lib.ListN.{length}
+use Rattle.reporting.proofs.TableRows.{cells-blanks}
+use borrow.Author.Needs.{needs}
 use Rattle.reporting.proofs.leaf.cells_in.Statement.{statement}
 use Rattle.reporting.proofs.leaf.cells_in.Tie as tie
 
-abbrev Inv-loop : tie.InvT-loop
-Inv-loop cells₀ from n i₀ cells i = (i ≤ n) × (length cells ≡ length cells₀) × (take i cells ≡ map (cellAt from) (upward i 0))
+-- what is copied is the smaller of n and what the table has
+few : (c : tie.Joined1) → (c .if1 .whole ≤ c .before .before .before .args .n) × (c .if1 .whole ≤ length (c .before .before .before .args .from .now) / 4)
+    × ((j : ℕ) → c .if1 .whole ≤ j → j < c .before .before .before .args .n → length (c .before .before .before .args .from .now) / 4 ≤ j)
+few c =
+    ⊎-elim
+    (λ e. (omega arith, omega arith, λ j a b. omega arith))
+    (λ e. (omega arith, omega arith, λ j a b. omega arith)) (c .if1 .came)
 
-abbrev μ-loop : tie.MeasureT-loop
-μ-loop cells₀ from n i₀ cells i = n - i
+-- src/leaf.rt:40:5
+words-in-requires : tie.Need-words-in-requires
+words-in-requires c κs = (omega (arith, few (c .before) .0), few (c .before) .1)
 
--- src/leaf.rt:25:5
-loop-holds : tie.Need-loop-holds Inv-loop μ-loop
-loop-holds c = (omega arith, refl, refl)
+-- src/leaf.rt:41:26
+sub-blanks : tie.Need-sub-blanks
+sub-blanks c = few (c .before .before .before .before .before .before) .0
 
--- src/leaf.rt:26:20
-cell-requires : tie.Need-cell-requires Inv-loop μ-loop
-cell-requires c κs = tt
+-- src/leaf.rt:41:5
+blanks-requires : tie.Need-blanks-requires
+blanks-requires c κs = omega (arith, few (c .before .before .before .before .before .before) .0)
 
--- src/leaf.rt:26:9
-mul-cells : tie.Need-mul-cells Inv-loop μ-loop
-mul-cells c = omega arith
+-- src/leaf.rt:32:1
+same-length : tie.Need-same-length
+same-length c = search needs
 
--- src/leaf.rt:26:9
-slice-write-cells : tie.Need-slice-write-cells Inv-loop μ-loop
-slice-write-cells c = omega arith
-
--- src/leaf.rt:27:9
-add-i : tie.Need-add-i Inv-loop μ-loop
-add-i c = omega arith
-
--- src/leaf.rt:25:5
-loop-less : tie.Need-loop-less Inv-loop μ-loop
-loop-less c = omega arith
-
--- src/leaf.rt:25:5
-loop-again : tie.Need-loop-again Inv-loop μ-loop
-loop-again c =
-    let l = c .before .before .loop in
-    (omega arith, simp length-set (l .inv .1), rw (c .cell .ensures) (next-cell (cellAt (c .before .before .before .before .before .args .from .now)) (l .cells) (l .i) (l .inv .2) (omega arith)))
-
--- src/leaf.rt:20:1
-same-length : tie.Need-same-length Inv-loop μ-loop
-same-length c = c .before .loop .inv .1
-
--- src/leaf.rt:20:1
-returns : tie.Need-returns Inv-loop μ-loop
+-- src/leaf.rt:32:1
+returns : tie.Need-returns
 returns c =
-    let l = c .before .loop in
-    let e : c .before .before .before .before .args .n ≡ l .i = omega arith in
-    rw e (l .inv .2)
+    let f = few (c .before .before .before .before .before .before .before .before .before) in
+    cells-blanks (c .before .before .before .before .before .before .before .before .before .before .before .before .args .from .now) _ _ _ _ (c .before .before .before .before .before .before .before .words-in .ensures) (c .before .before .blanks .ensures) (f .0) (f .2)
 
 pub cells-in-spec : {M : Type 1} → statement M
 cells-in-spec =
-    tie.close
-    (tie.spec
-    Inv-loop
-    μ-loop
-    loop-holds
-    cell-requires
-    mul-cells
-    slice-write-cells
-    add-i
-    loop-less
-    loop-again
-    same-length
-    returns)
+    tie.close (tie.spec words-in-requires sub-blanks blanks-requires same-length returns)

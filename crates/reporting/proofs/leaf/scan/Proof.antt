@@ -13,35 +13,35 @@ count c =
     let t = c .before .before .table-from .ensures in
     ap₂ _*_ (c .before .rows-of .ensures .0 ∙ ap rowsOf t) (c .columns-of .ensures .0 ∙ ap columnsOf t)
 
--- src/leaf.rt:36:9
+-- src/leaf.rt:49:9
 table-from-requires : tie.Need-table-from-requires
 table-from-requires c κs = search needs
 
--- src/leaf.rt:37:9
+-- src/leaf.rt:50:9
 rows-of-requires : tie.Need-rows-of-requires
 rows-of-requires c κs = search needs
 
--- src/leaf.rt:38:20
+-- src/leaf.rt:51:20
 columns-of-requires : tie.Need-columns-of-requires
 columns-of-requires c κs = search needs
 
--- src/leaf.rt:38:13
+-- src/leaf.rt:51:13
 mul-n : tie.Need-mul-n
 mul-n c = omega (arith, mul-le-mul (c .before .rows-of .ensures .1) (c .columns-of .ensures .1))
 
--- src/leaf.rt:39:21
+-- src/leaf.rt:52:21
 table-cells-requires : tie.Need-table-cells-requires
 table-cells-requires c κs = search needs
 
--- src/leaf.rt:39:5
+-- src/leaf.rt:52:5
 cells-in-requires : tie.Need-cells-in-requires
 cells-in-requires c κs = omega (arith, count (c .before .before), c .before .before .before .before .before .before .before .pre)
 
--- src/leaf.rt:32:1
+-- src/leaf.rt:45:1
 same-length : tie.Need-same-length
 same-length c = search needs
 
--- src/leaf.rt:32:1
+-- src/leaf.rt:45:1
 returns : tie.Need-returns
 returns c =
     let a = c .before .before .before .before .before .before .before .before .before .before .args in

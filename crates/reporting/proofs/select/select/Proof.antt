@@ -12,7 +12,7 @@ use Rattle.reading.specs.Tree.{operatorOf}
 use Rattle.reporting.specs.Rows.{chunk, envOf, passing}
 use Rattle.reporting.proofs.Chunks.{part-row, part-length}
 use Rattle.reporting.proofs.Copies.{written-copy}
-use Rattle.reporting.proofs.Building.{Building, kept, filter-kept, building-start, building-row, kept-room, kept-turn, skipped-turn, kept-done}
+use Rattle.reporting.proofs.Building.{Building, kept, filter-kept, building-start, building-row, kept-below, kept-turn, skipped-turn, kept-done}
 use Rattle.reporting.proofs.select.select.Statement.{statement}
 use Rattle.reporting.proofs.select.select.Tie as tie
 
@@ -22,67 +22,65 @@ Inv-loop node cells₀ own m ids env w i₀ out₀ src₀ dst₀ cells i out src
 abbrev μ-loop : tie.MeasureT-loop
 μ-loop node cells₀ own m ids env w i₀ out₀ src₀ dst₀ cells i out src dst = m - i
 
--- the row at hand lies within the cells, and its place at the front lies below it
-in-row : (c : tie.In-loop Inv-loop μ-loop) → (c .before .loop .src + length (c .before .before .before .before .before .args .ids .now) ≤ length (c .before .loop .cells)) × (c .before .loop .dst + length (c .before .before .before .before .before .args .ids .now) ≤ c .before .loop .src)
-in-row c =
-    let p = c .before .loop .inv .0 in
-    omega (arith, building-row p (c .loop-test .taken), kept-room p (c .loop-test .taken), p .src-at)
+-- the row at hand lies within the cells, and its place at the front is no higher than it stands
+in-row : (c : tie.In-loop Inv-loop μ-loop) → (c .before .loop .src + length (c .before .before .before .before .before .args .ids .now) ≤ length (c .before .loop .cells)) × (c .before .loop .dst ≤ c .before .loop .src)
+in-row c = let p = c .before .loop .inv .0 in omega (arith, building-row p (c .loop-test .taken), kept-below p)
 
--- src/select.rt:33:5
+-- src/select.rt:31:5
 loop-holds : tie.Need-loop-holds Inv-loop μ-loop
 loop-holds c =
     let a = c .before .before .before .args in
     (building-start (a .cells .now) (sym (filter-kept (λ q. passing (operatorOf (a .node)) (bind (a .ids .now) q (envOf (a .env .now)))) (chunk (a .m) (length (a .ids .now)) (drop (a .own) (a .cells .now))))), refl)
 
--- src/select.rt:34:46
+-- src/select.rt:32:46
 add-row-passes : tie.Need-add-row-passes Inv-loop μ-loop
 add-row-passes c = omega (arith, in-row c .0)
 
--- src/select.rt:34:34
+-- src/select.rt:32:34
 mul-row-passes : tie.Need-mul-row-passes Inv-loop μ-loop
 mul-row-passes c = omega (arith, in-row c .0)
 
--- src/select.rt:34:34
+-- src/select.rt:32:34
 sub-row-passes : tie.Need-sub-row-passes Inv-loop μ-loop
 sub-row-passes c = omega arith
 
--- src/select.rt:34:34
+-- src/select.rt:32:34
 part-row-passes-start : tie.Need-part-row-passes-start Inv-loop μ-loop
 part-row-passes-start c = omega (arith, in-row (c .before) .0)
 
--- src/select.rt:34:34
+-- src/select.rt:32:34
 part-row-passes-end : tie.Need-part-row-passes-end Inv-loop μ-loop
 part-row-passes-end c = omega (arith, in-row (c .before) .0)
 
--- src/select.rt:34:12
+-- src/select.rt:32:12
 row-passes-requires : tie.Need-row-passes-requires Inv-loop μ-loop
 row-passes-requires c κs = let a = c .before .before .before .before .before .before .before .args in omega (arith, part-length (c .before .before .before .loop .src) (length (a .ids .now)) (c .before .before .before .loop .cells) (in-row (c .before .before) .0))
 
--- src/select.rt:35:13
+-- src/select.rt:33:13
 copy-row-requires : tie.Need-copy-row-requires Inv-loop μ-loop
 copy-row-requires c κs = omega (arith, in-row (c .before .before .before .before .before) .0, in-row (c .before .before .before .before .before) .1)
 
--- src/select.rt:36:13
+-- src/select.rt:34:13
 add-out : tie.Need-add-out Inv-loop μ-loop
 add-out c = omega (arith, c .before .before .before .before .before .before .before .before, c .before .before .before .before .before .before .before .before .before .loop .inv .0 .few)
 
--- src/select.rt:37:13
+-- src/select.rt:35:13
 add-dst : tie.Need-add-dst Inv-loop μ-loop
 add-dst c = omega (arith, in-row (c .before .before .before .before .before .before .before .before) .0, in-row (c .before .before .before .before .before .before .before .before) .1, c .before .before .before .before .before .before .before .before)
 
--- src/select.rt:39:9
+-- src/select.rt:37:9
 add-i : tie.Need-add-i Inv-loop μ-loop
 add-i c = omega arith
 
--- src/select.rt:40:9
+-- src/select.rt:38:9
 add-src : tie.Need-add-src Inv-loop μ-loop
 add-src c = omega (arith, in-row (c .before .before .before .before) .0)
 
--- src/select.rt:33:5
+-- src/select.rt:31:5
 loop-less : tie.Need-loop-less Inv-loop μ-loop
 loop-less c = omega arith
 
--- src/select.rt:33:5
+-- src/select.rt:31:5
 loop-again : tie.Need-loop-again Inv-loop μ-loop
 loop-again c =
     let a = c .before .before .before .before .before .before .before .before .before .args in
@@ -100,11 +98,11 @@ loop-again c =
     (λ v. (skipped-turn p h (c .if1 .cells) (c .if1 .out) (c .if1 .dst) (ap (λ b. cond b (row ∷ []) []) (test ∙ v .0 .left)) (v .1) (v .2) (v .3), ap length (v .1) ∙ l .inv .1))
     (c .if1 .came)
 
--- src/select.rt:16:1
+-- src/select.rt:15:1
 same-length : tie.Need-same-length Inv-loop μ-loop
 same-length c = c .before .loop .inv .1
 
--- src/select.rt:16:1
+-- src/select.rt:15:1
 returns : tie.Need-returns Inv-loop μ-loop
 returns c = kept-done (c .before .loop .inv .0) (c .loop-test .left)
 

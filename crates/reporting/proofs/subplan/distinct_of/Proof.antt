@@ -5,7 +5,7 @@ use Rattle.reporting.proofs.subplan.distinct_of.Tie as tie
 use Rattle.reporting.proofs.subplan.distinct_of.Reads as reads
 use Rattle.reporting.proofs.subplan.distinct_of.Lts as lts
 
--- src/subplan.rt:73:1
+-- src/subplan.rt:74:1
 returns : tie.Need-returns
 unfolding operatorBy
 returns c = refl

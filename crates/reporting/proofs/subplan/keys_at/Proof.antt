@@ -11,7 +11,8 @@ use Rattle.reading.specs.Tree.{operatorOf, planAt, planOf}
 use Rattle.reading.specs.Check.{inputRefusal}
 use Rattle.reporting.specs.Evaluation.{Ready}
 use Rattle.reporting.proofs.Soundness.{sound-bound}
-use Rattle.reporting.proofs.Arms.{tail-length, rows-fit}
+use Rattle.reporting.proofs.Arms.{rows-fit}
+use Rattle.reporting.proofs.Lent.{tail-length}
 use Rattle.reporting.proofs.Subplans.{ready-at, spare, EvaluatedAt, keys-arity, keys-room, keys-evaluated, not-turned, rows-turned, rows-done}
 use borrow.Author.Needs.{needs}
 use Rattle.reporting.proofs.subplan.keys_at.Statement.{statement}
@@ -48,53 +49,53 @@ found c =
     let ys = c .before .before .before .before .before .before .eval .last .1 .1 .1 .0 in
     rw (← same) (keys-evaluated (tablesOf (a .set .now)) (planAt (a .plan .now) (a .place)) (a .id) (operatorOf (c .before .before .before .distinct-of .result)) (c .before .before .before .distinct-of .ensures) s ys (c .unary-at .last .1 .1 .1 .1 .0) (c .before .before .before .before .before .before .eval .result) (c .unary-at .result) (length s - 4096) (omega (arith, long (c .before .before .before .before .before .before .before .before .before), same)) (readied (c .before .before .before .before .before .before .before .before .before) (length ys) (part (c .before .before .before .before .before .before))) (c .before .before .before .before .before .before .eval .ensures) (c .unary-at .ensures))
 
--- src/subplan.rt:96:9
+-- src/subplan.rt:98:9
 turned-back-requires : tie.Need-turned-back-requires
 turned-back-requires c κs = search needs
 
--- src/subplan.rt:98:9
+-- src/subplan.rt:100:9
 refused-requires : tie.Need-refused-requires
 refused-requires c κs = search needs
 
--- src/subplan.rt:98:9
+-- src/subplan.rt:100:9
 same-length : tie.Need-same-length
 same-length c = search needs
 
--- src/subplan.rt:98:9
+-- src/subplan.rt:100:9
 returns : tie.Need-returns
 returns c =
     let a = c .before .before .before .before .before .before .before .before .before .args in
     rows-turned (a .set .now) (a .plan .now) (a .scratch .now) (one (distinct (a .id ∷ [])) (planAt (a .plan .now) (a .place))) (c .refused .result) _ _ (c .before .before .before .before .turned-back .ensures) (c .before .if1 .taken) (c .refused .ensures)
 
--- src/subplan.rt:101:36
+-- src/subplan.rt:103:36
 sub-eval : tie.Need-sub-eval
 sub-eval c = omega (arith, long (c), c .before .before .before .turned-back .kept .1 .1 .0)
 
--- src/subplan.rt:101:36
+-- src/subplan.rt:103:36
 part-eval-start : tie.Need-part-eval-start
 part-eval-start c = omega (arith, long (c), c .before .before .before .turned-back .kept .1 .1 .0)
 
--- src/subplan.rt:101:36
+-- src/subplan.rt:103:36
 part-eval-end : tie.Need-part-eval-end
 part-eval-end c = omega (arith, long (c), c .before .before .before .turned-back .kept .1 .1 .0)
 
--- src/subplan.rt:101:58
+-- src/subplan.rt:103:58
 slice-aggregate-eval : tie.Need-slice-aggregate-eval
 slice-aggregate-eval c = search needs
 
--- src/subplan.rt:101:9
+-- src/subplan.rt:103:9
 eval-requires : tie.Need-eval-requires
 eval-requires c κs = readied (c .before .before) _ (tail-length 4096 (c .before .before .before .before .before .turned-back .last .1 .1 .0) ∙ ap (λ (k : ℕ). k - 4096) (c .before .before .before .before .before .turned-back .kept .1 .1 .0))
 
--- src/subplan.rt:102:9
+-- src/subplan.rt:104:9
 distinct-of-requires : tie.Need-distinct-of-requires
 distinct-of-requires c κs = search needs
 
--- src/subplan.rt:103:67
+-- src/subplan.rt:105:67
 slice-aggregate-unary-at : tie.Need-slice-aggregate-unary-at
 slice-aggregate-unary-at c = search needs
 
--- src/subplan.rt:103:9
+-- src/subplan.rt:105:9
 unary-at-requires : tie.Need-unary-at-requires
 unary-at-requires c κs =
     let a = c .before .before .before .before .before .before .before .before .before .before .before .before .before .before .before .before .args in
@@ -102,20 +103,20 @@ unary-at-requires c κs =
     let few = c .before .before .before .before .before .eval .ensures .few in
     let e = c .before .before .distinct-of .ensures in (
       (r .sound, keys-arity (tablesOf (a .set .now)) (planAt (a .plan .now) (a .place)) (a .id) _ e, refl, omega (arith, few, sound-bound (r .sound))),
-      (keys-room (tablesOf (a .set .now)) (planAt (a .plan .now) (a .place)) (a .id) _ e (c .before .before .before .before .before .eval .result) (omega (arith, few, sound-bound (r .sound))), omega (arith, rows-fit (c .before .before .before .before .before .eval .result) r few, whole (c .before .before .before .before .before), part (c .before .before .before .before .before), long (c .before .before .before .before .before .before .before .before))),
+      keys-room (tablesOf (a .set .now)) (planAt (a .plan .now) (a .place)) (a .id) _ e (c .before .before .before .before .before .eval .result) _ (omega (arith, few, sound-bound (r .sound))) (omega (arith, rows-fit (c .before .before .before .before .before .eval .result) r few, whole (c .before .before .before .before .before), part (c .before .before .before .before .before), long (c .before .before .before .before .before .before .before .before))),
     )
 
--- src/subplan.rt:104:5
+-- src/subplan.rt:106:5
 given-requires : tie.Need-given-requires
 given-requires c κs =
     let e = found (c .before .before .before) in
     (e .most, omega (arith, e .inside, c .before .before .before .unary-at .kept .1 .1 .1 .1 .0, whole (c .before .before .before .before .before .before .before .before .before)))
 
--- src/subplan.rt:93:1
+-- src/subplan.rt:94:1
 same-length-2 : tie.Need-same-length-2
 same-length-2 c = c .before .before .given .kept .1 .1 .0 ∙ (c .before .before .before .before .before .before .unary-at .kept .1 .1 .1 .1 .0 ∙ whole (c .before .before .before .before .before .before .before .before .before .before .before .before))
 
--- src/subplan.rt:93:1
+-- src/subplan.rt:94:1
 returns-2 : tie.Need-returns-2
 returns-2 c =
     let a = c .before .before .before .before .before .before .before .before .before .before .before .before .before .before .before .before .before .before .before .before .before .before .before .args in

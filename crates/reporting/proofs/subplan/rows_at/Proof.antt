@@ -30,47 +30,47 @@ found c =
     let a = c .before .before .before .before .before .before .before .before .before .before .before .before .before .before .args in
     tree-evaluated (tablesOf (a .set .now)) (planAt (a .plan .now) (a .place)) (c .before .before .before .eval .last .1 .1 .1 .0) (length (a .scratch .now)) (c .before .before .before .eval .result) (c .columns-at .result) (readied (c .before .before .before .before .before .before)) (c .before .before .before .eval .ensures) (c .columns-at .ensures)
 
--- src/subplan.rt:62:9
+-- src/subplan.rt:63:9
 turned-back-requires : tie.Need-turned-back-requires
 turned-back-requires c κs = search needs
 
--- src/subplan.rt:64:9
+-- src/subplan.rt:65:9
 refused-requires : tie.Need-refused-requires
 refused-requires c κs = search needs
 
--- src/subplan.rt:64:9
+-- src/subplan.rt:65:9
 same-length : tie.Need-same-length
 same-length c = search needs
 
--- src/subplan.rt:64:9
+-- src/subplan.rt:65:9
 returns : tie.Need-returns
 returns c =
     let a = c .before .before .before .before .before .before .before .before .before .args in
     rows-turned (a .set .now) (a .plan .now) (a .scratch .now) (planAt (a .plan .now) (a .place)) (c .refused .result) _ _ (c .before .before .before .before .turned-back .ensures) (c .before .if1 .taken) (c .refused .ensures)
 
--- src/subplan.rt:67:48
+-- src/subplan.rt:68:48
 slice-aggregate-eval : tie.Need-slice-aggregate-eval
 slice-aggregate-eval c = search needs
 
--- src/subplan.rt:67:9
+-- src/subplan.rt:68:9
 eval-requires : tie.Need-eval-requires
 eval-requires c κs = rw (c .before .before .before .before .before .turned-back .kept .1 .1 .0) (readied (c .before .before))
 
--- src/subplan.rt:68:9
+-- src/subplan.rt:69:9
 columns-at-requires : tie.Need-columns-at-requires
 columns-at-requires c κs = search needs
 
--- src/subplan.rt:69:5
+-- src/subplan.rt:70:5
 given-requires : tie.Need-given-requires
 given-requires c κs =
     let e = found (c .before) in
     (e .most, omega (arith, e .inside, c .before .before .before .before .eval .kept .1 .1 .1 .0, c .before .before .before .before .before .before .before .before .before .before .turned-back .kept .1 .1 .0))
 
--- src/subplan.rt:59:1
+-- src/subplan.rt:60:1
 same-length-2 : tie.Need-same-length-2
 same-length-2 c = search needs
 
--- src/subplan.rt:59:1
+-- src/subplan.rt:60:1
 returns-2 : tie.Need-returns-2
 returns-2 c =
     let a = c .before .before .before .before .before .before .before .before .before .before .before .before .before .before .before .before .before .before .args in

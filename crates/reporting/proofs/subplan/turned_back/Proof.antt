@@ -10,26 +10,26 @@ use Rattle.reporting.proofs.subplan.turned_back.Lts as lts
 use Rattle.reading.proofs.input.check_input.Reads as check-input-reads
 use Rattle.reporting.proofs.output.clear.Reads as clear-reads
 
--- src/subplan.rt:27:11
+-- src/subplan.rt:28:11
 check-input-requires : tie.Need-check-input-requires
 check-input-requires c κs = search needs
 
--- src/subplan.rt:28:26
+-- src/subplan.rt:29:26
 enum-known-number : tie.Need-enum-known-number
 enum-known-number c = search needs
 
--- src/subplan.rt:32:13
+-- src/subplan.rt:33:13
 enum-known-need : tie.Need-enum-known-need
 enum-known-need c = search needs
 
--- src/subplan.rt:35:17
+-- src/subplan.rt:36:17
 returns : tie.Need-returns
 returns c =
     let a = c .before .before .before .before .before .before .before .before .args in
     let k = accepted-input (a .set .now) (a .plan .now) _ _ _ (sym (c .before .before .before .before .check-input .ensures) ∙ c .before .before .need .given .1) in
     turned-none (a .set .now) (a .plan .now) (a .scratch .now) (k .0) (omega (arith, k .1, c .if1 .taken))
 
--- src/subplan.rt:37:13
+-- src/subplan.rt:38:13
 clear-requires : tie.Need-clear-requires
 clear-requires c κs = search needs
 

@@ -37,7 +37,7 @@ row c =
     let P : Row → Bool = λ q. flip (a .mark) (passing (operatorOf (a .node)) (bind (a .ids .now) q (envOf (a .env .now)))) in
     ap P (part-row (c .before .before .before .loop .at) (length (a .ids .now)) (a .rows .now)) ∙ ap (flip (a .mark)) (sym (c .row-passes .ensures)) ∙ sym (flip-differs (a .mark) (c .row-passes .result))
 
--- src/test.rt:129:5
+-- src/test.rt:130:5
 loop-holds : tie.Need-loop-holds Inv-loop μ-loop
 loop-holds c =
     let a = c .before .before .before .args in
@@ -45,33 +45,33 @@ loop-holds c =
     let e : a .k ≡ a .k - 0 = omega arith in
     (omega arith, sym (zero-mul (length (a .ids .now))), ap (λ (n : ℕ). any P (chunk n (length (a .ids .now)) (a .rows .now))) e)
 
--- src/test.rt:130:44
+-- src/test.rt:131:44
 add-row-passes : tie.Need-add-row-passes Inv-loop μ-loop
 add-row-passes c = omega (arith, in-row c)
 
--- src/test.rt:130:34
+-- src/test.rt:131:34
 mul-row-passes : tie.Need-mul-row-passes Inv-loop μ-loop
 mul-row-passes c = omega (arith, in-row c)
 
--- src/test.rt:130:34
+-- src/test.rt:131:34
 sub-row-passes : tie.Need-sub-row-passes Inv-loop μ-loop
 sub-row-passes c = omega arith
 
--- src/test.rt:130:34
+-- src/test.rt:131:34
 part-row-passes-start : tie.Need-part-row-passes-start Inv-loop μ-loop
 part-row-passes-start c = omega (arith, in-row c)
 
--- src/test.rt:130:34
+-- src/test.rt:131:34
 part-row-passes-end : tie.Need-part-row-passes-end Inv-loop μ-loop
 part-row-passes-end c = omega (arith, in-row c)
 
--- src/test.rt:130:12
+-- src/test.rt:131:12
 row-passes-requires : tie.Need-row-passes-requires Inv-loop μ-loop
 row-passes-requires c κs =
     let a = c .before .before .before .before .before .before .args in
     (sym (part-length (c .before .before .loop .at) (length (a .ids .now)) (a .rows .now) (in-row (c .before))), omega arith)
 
--- src/test.rt:131:13
+-- src/test.rt:132:13
 returns : tie.Need-returns Inv-loop μ-loop
 returns c =
     let a = c .before .before .before .before .before .before .before .before .args in
@@ -81,19 +81,19 @@ returns c =
     let rest : List Row = chunk (a .k - (l .i + 1)) w (drop (l .at + w) (a .rows .now)) in
     sym (l .inv .2 ∙ ap (any P) (next-row (a .k) w (l .i) (l .at) (a .rows .now) (c .before .before .before .loop-test .taken)) ∙ ap (λ (b : Bool). b || any P rest) (row (c .before) ∙ c .if1 .taken))
 
--- src/test.rt:133:9
+-- src/test.rt:134:9
 add-i : tie.Need-add-i Inv-loop μ-loop
 add-i c = omega arith
 
--- src/test.rt:134:9
+-- src/test.rt:135:9
 add-at : tie.Need-add-at Inv-loop μ-loop
 add-at c = omega (arith, in-row (c .before .before .before))
 
--- src/test.rt:129:5
+-- src/test.rt:130:5
 loop-less : tie.Need-loop-less Inv-loop μ-loop
 loop-less c = omega arith
 
--- src/test.rt:129:5
+-- src/test.rt:130:5
 loop-again : tie.Need-loop-again Inv-loop μ-loop
 loop-again c =
     let a = c .before .before .before .before .before .before .before .before .args in

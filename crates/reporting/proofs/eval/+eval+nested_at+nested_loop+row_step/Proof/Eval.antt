@@ -7,13 +7,15 @@ use Rattle.reading.specs.TableSet.{tablesOf}
 use Rattle.reading.specs.Tree.{operatorOf, planAt}
 use Rattle.reading.specs.Nodes.{arity}
 use Rattle.reporting.specs.Rows.{envOf}
+use Rattle.reporting.specs.Evaluation.{partAt}
 use Rattle.reading.specs.Plan.{nodesOf}
 use Rattle.reading.proofs.Operators.{arity-of}
 use Rattle.reading.proofs.Trees.{plan-past, second-at}
 use borrow.Rule.Slice.PartMut.{putMid, same-len-mid}
 use Rattle.reporting.proofs.Soundness.{sound-bound}
 use Rattle.reporting.proofs.Children.{First, Single, Double, childless-at, first-at, single-at, double-at, two-of}
-use Rattle.reporting.proofs.Arms.{Kid, kid-of, tail-length, past-arm, leaf-room, leaf-arm, own-fits, child-ready, rows-inside, acted-room, unary-arm, emitted-room, behind-fits, inner-ready, left-inside, right-inside, few-of, nested-arm, binary-arm}
+use Rattle.reporting.proofs.Arms.{Kid, kid-of, past-arm, leaf-room, leaf-arm, own-fits, child-ready, unary-room, unary-arm, behind-fits, inner-ready, right-inside, few-of, loop-room, nested-arm, binary-arm}
+use Rattle.reporting.proofs.Lent.{tail-length}
 -- What `eval` leaves to show.
 use Prim.Native.Nat.{ℕ, _+_, _-_, _<_, _≤_}
 use Rattle.reporting.proofs.eval.eval.Reads as eval
@@ -40,7 +42,7 @@ kinds : (t : ℕ) (c : eval-lts.After-children-of (eval-calls t) (eval-at t) eva
 kinds t c = c .children-of .ensures ∙ arity-of (c .before .node-at .result)
 
 -- the node has a first child
-first : (t : ℕ) (c : eval-lts.Else2 (eval-calls t) (eval-at t) eval.Post) → let a = c .before .before .before .before .before .before .before .before .before .args in First (tablesOf (a .set .now)) (planAt (a .plan .now) (a .at)) (planAt (a .plan .now) (a .at + 1))
+first : (t : ℕ) (c : eval-lts.Else2 (eval-calls t) (eval-at t) eval.Post) → let a = c .before .before .before .before .before .before .before .before .before .args in First (tablesOf (a .set .now)) (operatorOf (c .before .before .node-at .result)) (planAt (a .plan .now) (a .at)) (planAt (a .plan .now) (a .at + 1))
 first t c = let a = c .before .before .before .before .before .before .before .before .before .args in first-at (tablesOf (a .set .now)) (a .plan .now) (a .at) (c .before .before .node-at .result) (here t (c .before .before .before)) (c .before .before .node-at .ensures) (λ e. c .if2 .left (kinds t (c .before) ∙ e))
 
 -- after the first child: the whole has its length, and the child's rows lie in the part
@@ -68,206 +70,213 @@ both t c =
     subst (Double T (operatorOf node) (planAt (a .plan .now) (a .at)) (planAt (a .plan .now) (a .at + 1))) (sym (second-at (a .plan .now) (a .at) (c .tree-end .result) (c .tree-end .ensures)))
     (double-at T (a .plan .now) (a .at) node (here t (c .before .before .before .before .before .before .before .before .before .before)) (c .before .before .before .before .before .before .before .before .before .node-at .ensures) (pair t (c .before)))
 
--- the second child's part starts within the whole
-beyond : (t : ℕ) (c : eval-lts.After-region-at2 (eval-calls t) (eval-at t) eval.Post) → let a = c .before .before .before .before .before .before .before .before .before .before .before .before .before .before .before .before .before .args in let own = c .before .before .before .before .before .before .before .region-at .result in own + c .region-at2 .result ≤ length (putMid own (length (a .cells .now) - own) (a .cells .now) (c .before .before .before .before .before .eval .last .1 .1 .1 .0))
-beyond t c = omega (arith, behind-fits (both t (c .before)) (c .before .before .before .before .before .before .before .before .before .before .before .before .before .before .before .before .before .pre .1) (c .before .before .before .before .before .before .before .region-at .ensures .0) (ap (λ (x : ℕ). c .before .before .before .before .before .before .before .region-at .result + x) (c .region-at2 .ensures .0)), back t (c .before .before .before .before .before) .0)
+-- the second child's part starts behind the first's, within the whole
+behind-at : (t : ℕ) (c : eval-lts.After-tree-part (eval-calls t) (eval-at t) eval.Post) → let a = c .before .before .before .before .before .before .before .before .before .before .before .before .before .before .before .before .before .args in c .before .before .before .before .before .before .before .region-at .result + c .tree-part .result ≡ c .before .before .before .before .before .before .before .region-at .result + partAt (a .set .now) (a .plan .now) (a .at + 1)
+behind-at t c = ap (λ (x : ℕ). c .before .before .before .before .before .before .before .region-at .result + x) (c .tree-part .ensures)
+
+within : (t : ℕ) (c : eval-lts.After-tree-part (eval-calls t) (eval-at t) eval.Post) → c .before .before .before .before .before .before .before .region-at .result + c .tree-part .result ≤ length (c .before .before .before .before .before .before .before .before .before .before .before .before .before .before .before .before .before .args .cells .now)
+within t c = behind-fits (both t (c .before)) (c .before .before .before .before .before .before .before .before .before .before .before .before .before .before .before .before .before .pre .1) (first t (c .before .before .before .before .before .before .before .before)) (c .before .before .before .before .before .before .before .region-at .ensures .0) (behind-at t c)
+
+beyond : (t : ℕ) (c : eval-lts.After-tree-part (eval-calls t) (eval-at t) eval.Post) → let a = c .before .before .before .before .before .before .before .before .before .before .before .before .before .before .before .before .before .args in let own = c .before .before .before .before .before .before .before .region-at .result in own + c .tree-part .result ≤ length (putMid own (length (a .cells .now) - own) (a .cells .now) (c .before .before .before .before .before .eval .last .1 .1 .1 .0))
+beyond t c = omega (arith, within t c, back t (c .before .before .before .before .before) .0)
 
 -- after the second child
-back₂ : (t : ℕ) (c : eval-lts.After-eval2 (eval-calls t) (eval-at t) eval.Post) → let a = c .before .before .before .before .before .before .before .before .before .before .before .before .before .before .before .before .before .before .before .before .before .args in let own = c .before .before .before .before .before .before .before .before .before .before .before .region-at .result in let cells = putMid own (length (a .cells .now) - own) (a .cells .now) (c .before .before .before .before .before .before .before .before .before .eval .last .1 .1 .1 .0) in let behind = own + c .before .before .before .before .region-at2 .result in let last = c .eval2 .last .1 .1 .1 .0 in (length (putMid behind (length cells - behind) cells last) ≡ length (a .cells .now)) × Kid (tablesOf (a .set .now)) (planAt (a .plan .now) (c .before .before .before .before .before .tree-end .result)) (envOf (a .env .now)) (c .eval2 .result) last
+back₂ : (t : ℕ) (c : eval-lts.After-eval2 (eval-calls t) (eval-at t) eval.Post) → let a = c .before .before .before .before .before .before .before .before .before .before .before .before .before .before .before .before .before .before .before .before .before .args in let own = c .before .before .before .before .before .before .before .before .before .before .before .region-at .result in let cells = putMid own (length (a .cells .now) - own) (a .cells .now) (c .before .before .before .before .before .before .before .before .before .eval .last .1 .1 .1 .0) in let behind = own + c .before .before .before .before .tree-part .result in let last = c .eval2 .last .1 .1 .1 .0 in (length (putMid behind (length cells - behind) cells last) ≡ length (a .cells .now)) × Kid (tablesOf (a .set .now)) (planAt (a .plan .now) (c .before .before .before .before .before .tree-end .result)) (envOf (a .env .now)) (c .eval2 .result) last
 back₂ t c =
     let a = c .before .before .before .before .before .before .before .before .before .before .before .before .before .before .before .before .before .before .before .before .before .args in
     let own = c .before .before .before .before .before .before .before .before .before .before .before .region-at .result in
     let cells = putMid own (length (a .cells .now) - own) (a .cells .now) (c .before .before .before .before .before .before .before .before .before .eval .last .1 .1 .1 .0) in
-    let behind = own + c .before .before .before .before .region-at2 .result in
+    let behind = own + c .before .before .before .before .tree-part .result in
     let last = c .eval2 .last .1 .1 .1 .0 in
     let was = back t (c .before .before .before .before .before .before .before .before .before) .0 in
-    let b = ap (λ (x : ℕ). own + x) (c .before .before .before .before .region-at2 .ensures .0) in
+    let b = behind-at t (c .before .before .before .before) in
     let len : length last ≡ length (a .cells .now) - behind = c .eval2 .kept .1 .1 .1 .0 ∙ tail-length behind cells ∙ ap (λ (x : ℕ). x - behind) was in
-    (same-len-mid behind (length cells - behind) cells last (c .eval2 .kept .1 .1 .1 .0) ∙ was, kid-of (inner-ready (both t (c .before .before .before .before .before)) (c .before .before .before .before .before .before .before .before .before .before .before .before .before .before .before .before .before .before .before .before .before .pre .1) (c .before .before .before .before .before .before .before .before .before .before .before .region-at .ensures .0) b (length last) len) (c .eval2 .ensures))
+    (same-len-mid behind (length cells - behind) cells last (c .eval2 .kept .1 .1 .1 .0) ∙ was, kid-of (inner-ready (both t (c .before .before .before .before .before)) (c .before .before .before .before .before .before .before .before .before .before .before .before .before .before .before .before .before .before .before .before .before .pre .1) (first t (c .before .before .before .before .before .before .before .before .before .before .before .before)) (c .before .before .before .before .before .before .before .before .before .before .before .region-at .ensures .0) b (length last) len) (c .eval2 .ensures))
 
--- src/eval.rt:171:8
+-- src/eval.rt:279:8
 pub nodes-of-requires : (t : ℕ) → eval-lts.Need-nodes-of-requires (eval-calls t) (eval-at t) eval.Post
 nodes-of-requires t c κs = tt
 
--- src/eval.rt:172:9
+-- src/eval.rt:280:9
 pub returns : (t : ℕ) → eval-lts.Need-returns (eval-calls t) (eval-at t) eval.Post
 returns t c =
     let a = c .before .before .before .before .before .before .args in
     past-arm (tablesOf (a .set .now)) (planAt (a .plan .now) (a .at)) (envOf (a .env .now)) (a .cells .now) (plan-past (a .plan .now) (a .at) (omega (arith, c .if1 .taken, c .before .nodes-of .ensures .0)))
 
--- src/eval.rt:174:9
+-- src/eval.rt:282:9
 pub node-at-requires : (t : ℕ) → eval-lts.Need-node-at-requires (eval-calls t) (eval-at t) eval.Post
 node-at-requires t c κs = tt
 
--- src/eval.rt:175:9
+-- src/eval.rt:283:9
 pub children-of-requires : (t : ℕ) → eval-lts.Need-children-of-requires (eval-calls t) (eval-at t) eval.Post
 children-of-requires t c κs = tt
 
--- src/eval.rt:177:9
+-- src/eval.rt:285:9
 pub leaf-requires : (t : ℕ) → eval-lts.Need-leaf-requires (eval-calls t) (eval-at t) eval.Post
 leaf-requires t c κs =
     let a = c .before .before .before .before .before .before .before .before .before .before .args in
     leaf-room (childless-at (tablesOf (a .set .now)) (a .plan .now) (a .at) (c .before .before .before .node-at .result) (here t (c .before .before .before .before)) (c .before .before .before .node-at .ensures) (sym (kinds t (c .before .before)) ∙ c .before .if2 .taken)) (c .before .before .before .before .before .before .before .before .before .before .pre .1)
 
--- src/eval.rt:177:9
+-- src/eval.rt:285:9
 pub same-length : (t : ℕ) → eval-lts.Need-same-length (eval-calls t) (eval-at t) eval.Post
 same-length t c = c .before .before .leaf .kept .1 .1 .0
 
--- src/eval.rt:177:9
+-- src/eval.rt:285:9
 pub returns-2 : (t : ℕ) → eval-lts.Need-returns-2 (eval-calls t) (eval-at t) eval.Post
 returns-2 t c =
     let a = c .before .before .before .before .before .before .before .before .before .before .before .before .before .args in
     leaf-arm (childless-at (tablesOf (a .set .now)) (a .plan .now) (a .at) (c .before .before .before .before .before .before .node-at .result) (here t (c .before .before .before .before .before .before .before)) (c .before .before .before .before .before .before .node-at .ensures) (sym (kinds t (c .before .before .before .before .before)) ∙ c .before .before .before .before .if2 .taken)) (envOf (a .env .now)) (c .before .before .leaf .ensures)
 
--- src/eval.rt:179:9
+-- src/eval.rt:287:9
 pub region-at-requires : (t : ℕ) → eval-lts.Need-region-at-requires (eval-calls t) (eval-at t) eval.Post
 region-at-requires t c κs = c .before .before .before .before .before .before .before .before .before .pre .1 .sound
 
--- src/eval.rt:180:16
+-- src/eval.rt:288:16
 pub add-left : (t : ℕ) → eval-lts.Need-add-left (eval-calls t) (eval-at t) eval.Post
 add-left t c = omega (arith, here t (c .before .before .before .before), c .before .before .before .before .before .nodes-of .ensures)
 
--- src/eval.rt:181:35
+-- src/eval.rt:289:35
 pub mul-eval : (t : ℕ) → eval-lts.Need-mul-eval (eval-calls t) (eval-at t) eval.Post
 mul-eval t c = omega (arith, c .region-at .ensures .1)
 
--- src/eval.rt:181:35
+-- src/eval.rt:289:35
 pub sub-eval : (t : ℕ) → eval-lts.Need-sub-eval (eval-calls t) (eval-at t) eval.Post
 sub-eval t c = own-fits (c .before .before .before .before .before .before .before .before .before .before .pre .1) (first t (c .before)) (c .region-at .ensures .0)
 
--- src/eval.rt:181:35
+-- src/eval.rt:289:35
 pub part-eval-start : (t : ℕ) → eval-lts.Need-part-eval-start (eval-calls t) (eval-at t) eval.Post
 part-eval-start t c = own-fits (c .before .before .before .before .before .before .before .before .before .before .pre .1) (first t (c .before)) (c .region-at .ensures .0)
 
--- src/eval.rt:181:35
+-- src/eval.rt:289:35
 pub part-eval-end : (t : ℕ) → eval-lts.Need-part-eval-end (eval-calls t) (eval-at t) eval.Post
 part-eval-end t c = omega arith
 
--- src/eval.rt:181:9
+-- src/eval.rt:289:9
 pub eval-requires : (t : ℕ) → eval-lts.Need-eval-requires (eval-calls t) (eval-at t) eval.Post
 eval-requires t c κs = (omega (arith, first t (c .before .before) .smaller, c .before .before .before .before .before .before .before .before .before .before .before .pre .0), child-ready (c .before .before .before .before .before .before .before .before .before .before .before .pre .1) (first t (c .before .before)) (c .before .region-at .ensures .0) _ (tail-length (c .before .region-at .result) (c .before .before .before .before .before .before .before .before .before .before .before .args .cells .now)))
 
--- src/eval.rt:183:9
+-- src/eval.rt:291:9
 pub unary-at-requires : (t : ℕ) → eval-lts.Need-unary-at-requires (eval-calls t) (eval-at t) eval.Post
 unary-at-requires t c κs =
+    let R = c .before .before .before .before .before .before .before .before .before .before .before .before .before .before .before .before .pre .1 in
     let F = first t (c .before .before .before .before .before .before .before) in
-    let o = c .before .before .before .before .before .before .region-at .ensures .0 in
     let few = c .before .before .before .before .eval .ensures .few in
-    let sound = F .sound (c .before .before .before .before .before .before .before .before .before .before .before .before .before .before .before .before .pre .1 .sound) in (
-      (sound, sym (kinds t (c .before .before .before .before .before .before .before .before)) ∙ c .before .if3 .taken, c .before .before .before .before .before .before .before .before .before .before .before .before .before .before .before .before .pre .1 .bound, omega (arith, few, sound-bound sound)),
-      (acted-room (only t (c .before)) _ _ o few, omega (arith, rows-inside (c .before .before .before .before .before .before .before .before .before .before .before .before .before .before .before .before .pre .1) F o _ few, back t (c .before .before .before .before) .0)),
-    )
+    let sound = F .sound (R .sound) in
+    ((sound, sym (kinds t (c .before .before .before .before .before .before .before .before)) ∙ c .before .if3 .taken, R .bound, omega (arith, few, sound-bound sound)), rw (back t (c .before .before .before .before) .0) (unary-room (only t (c .before)) _ R F (c .before .before .before .before .before .before .region-at .ensures .0) few))
 
--- src/eval.rt:183:9
+-- src/eval.rt:291:9
 pub same-length-2 : (t : ℕ) → eval-lts.Need-same-length-2 (eval-calls t) (eval-at t) eval.Post
 same-length-2 t c = c .before .before .unary-at .kept .1 .1 .1 .1 .0 ∙ back t (c .before .before .before .before .before .before .before) .0
 
--- src/eval.rt:183:9
+-- src/eval.rt:291:9
 pub returns-3 : (t : ℕ) → eval-lts.Need-returns-3 (eval-calls t) (eval-at t) eval.Post
 returns-3 t c =
     let a = c .before .before .before .before .before .before .before .before .before .before .before .before .before .before .before .before .before .before .before .args in
     let own = c .before .before .before .before .before .before .before .before .before .region-at .result in
     unary-arm (only t (c .before .before .before .before)) own (length (a .cells .now) - own) (a .cells .now) (own-fits (c .before .before .before .before .before .before .before .before .before .before .before .before .before .before .before .before .before .before .before .pre .1) (first t (c .before .before .before .before .before .before .before .before .before .before)) (c .before .before .before .before .before .before .before .before .before .region-at .ensures .0)) (back t (c .before .before .before .before .before .before .before) .1) (c .before .before .unary-at .ensures)
 
--- src/eval.rt:185:9
+-- src/eval.rt:293:9
 pub tree-end-requires : (t : ℕ) → eval-lts.Need-tree-end-requires (eval-calls t) (eval-at t) eval.Post
 tree-end-requires t c κs = tt
 
--- src/eval.rt:186:24
-pub region-at-requires-2 : (t : ℕ) → eval-lts.Need-region-at-requires-2 (eval-calls t) (eval-at t) eval.Post
-region-at-requires-2 t c κs = first t (c .before .before .before .before .before .before .before) .sound (c .before .before .before .before .before .before .before .before .before .before .before .before .before .before .before .before .pre .1 .sound)
+-- src/eval.rt:294:24
+pub tree-part-requires : (t : ℕ) → eval-lts.Need-tree-part-requires (eval-calls t) (eval-at t) eval.Post
+tree-part-requires t c κs = first t (c .before .before .before .before .before .before .before) .sound (c .before .before .before .before .before .before .before .before .before .before .before .before .before .before .before .before .pre .1 .sound)
 
--- src/eval.rt:186:18
+-- src/eval.rt:294:18
 pub add-behind : (t : ℕ) → eval-lts.Need-add-behind (eval-calls t) (eval-at t) eval.Post
-add-behind t c = omega (arith, c .before .before .before .before .before .before .before .region-at .ensures .1, c .region-at2 .ensures .1)
+add-behind t c = omega (arith, within t c, c .before .before .before .before .before .before .before .before .before .before .before .before .before .before .before .before .before .good)
 
--- src/eval.rt:187:8
+-- src/eval.rt:295:8
 pub is-nested-requires : (t : ℕ) → eval-lts.Need-is-nested-requires (eval-calls t) (eval-at t) eval.Post
 is-nested-requires t c κs = tt
 
--- src/eval.rt:188:9
+-- src/eval.rt:296:9
 pub nested-at-requires : (t : ℕ) → eval-lts.Need-nested-at-requires (eval-calls t) (eval-at t) eval.Post
 nested-at-requires t c κs =
     let R = c .before .before .before .before .before .before .before .before .before .before .before .before .before .before .before .before .before .before .before .before .pre .1 in
     let D = both t (c .before .before .before .before) in
+    let F = first t (c .before .before .before .before .before .before .before .before .before .before .before) in
     let o = c .before .before .before .before .before .before .before .before .before .before .region-at .ensures .0 in
-    let b = ap (λ (x : ℕ). c .before .before .before .before .before .before .before .before .before .before .region-at .result + x) (c .before .before .before .region-at2 .ensures .0) in
+    let b = behind-at t (c .before .before .before) in
     let few = c .before .before .before .before .before .before .before .before .eval .ensures .few in
     let len = back t (c .before .before .before .before .before .before .before .before) .0 in (
       omega (arith, D .smaller, c .before .before .before .before .before .before .before .before .before .before .before .before .before .before .before .before .before .before .before .before .pre .0),
       (
-        (first t (c .before .before .before .before .before .before .before .before .before .before .before) .sound (R .sound), pair t (c .before .before .before .before .before), few-of D R o b _ _ few (omega arith)),
-        ((emitted-room D _ _ _ o few (omega arith), left-inside D R o b _ few, omega (arith, behind-fits D R o b, len)), inner-ready D R o b _ (omega (arith, len))),
+        (F .sound (R .sound), pair t (c .before .before .before .before .before), beyond t (c .before .before .before)),
+        (few-of D R F o b _ _ few (omega arith), (loop-room D R F o b _ _ few (omega arith), inner-ready D R F o b _ (omega (arith, len)))),
       ),
     )
 
--- src/eval.rt:188:9
+-- src/eval.rt:296:9
 pub same-length-3 : (t : ℕ) → eval-lts.Need-same-length-3 (eval-calls t) (eval-at t) eval.Post
 same-length-3 t c = c .before .before .nested-at .kept .1 .1 .1 .1 .1 .0 ∙ back t (c .before .before .before .before .before .before .before .before .before .before .before) .0
 
--- src/eval.rt:188:9
+-- src/eval.rt:296:9
 pub returns-4 : (t : ℕ) → eval-lts.Need-returns-4 (eval-calls t) (eval-at t) eval.Post
 returns-4 t c =
     let a = c .before .before .before .before .before .before .before .before .before .before .before .before .before .before .before .before .before .before .before .before .before .before .before .args in
     let own = c .before .before .before .before .before .before .before .before .before .before .before .before .before .region-at .result in
     nested-arm (both t (c .before .before .before .before .before .before .before)) own (length (a .cells .now) - own) (a .cells .now) (sym (c .before .before .before .before .before .is-nested .ensures) ∙ c .before .before .before .before .if4 .taken) (own-fits (c .before .before .before .before .before .before .before .before .before .before .before .before .before .before .before .before .before .before .before .before .before .before .before .pre .1) (first t (c .before .before .before .before .before .before .before .before .before .before .before .before .before .before)) (c .before .before .before .before .before .before .before .before .before .before .before .before .before .region-at .ensures .0)) (back t (c .before .before .before .before .before .before .before .before .before .before .before) .1) (c .before .before .nested-at .ensures)
 
--- src/eval.rt:190:36
+-- src/eval.rt:298:36
 pub mul-eval-2 : (t : ℕ) → eval-lts.Need-mul-eval-2 (eval-calls t) (eval-at t) eval.Post
-mul-eval-2 t c = omega (arith, c .before .before .before .before .before .before .before .before .before .region-at .ensures .1, c .before .before .region-at2 .ensures .1)
+mul-eval-2 t c = omega (arith, within t (c .before .before), c .before .before .before .before .before .before .before .before .before .before .before .before .before .before .before .before .before .before .before .good)
 
--- src/eval.rt:190:36
+-- src/eval.rt:298:36
 pub sub-eval-2 : (t : ℕ) → eval-lts.Need-sub-eval-2 (eval-calls t) (eval-at t) eval.Post
 sub-eval-2 t c = beyond t (c .before .before)
 
--- src/eval.rt:190:36
+-- src/eval.rt:298:36
 pub part-eval-start-2 : (t : ℕ) → eval-lts.Need-part-eval-start-2 (eval-calls t) (eval-at t) eval.Post
 part-eval-start-2 t c = beyond t (c .before .before)
 
--- src/eval.rt:190:36
+-- src/eval.rt:298:36
 pub part-eval-end-2 : (t : ℕ) → eval-lts.Need-part-eval-end-2 (eval-calls t) (eval-at t) eval.Post
 part-eval-end-2 t c = omega arith
 
--- src/eval.rt:190:9
+-- src/eval.rt:298:9
 pub eval-requires-2 : (t : ℕ) → eval-lts.Need-eval-requires-2 (eval-calls t) (eval-at t) eval.Post
 eval-requires-2 t c κs =
     let a = c .before .before .before .before .before .before .before .before .before .before .before .before .before .before .before .before .before .before .before .before .args in
     let own = c .before .before .before .before .before .before .before .before .before .before .region-at .result in
     let cells = putMid own (length (a .cells .now) - own) (a .cells .now) (c .before .before .before .before .before .before .before .before .eval .last .1 .1 .1 .0) in
-    let behind = own + c .before .before .before .region-at2 .result in
-    let b = ap (λ (x : ℕ). own + x) (c .before .before .before .region-at2 .ensures .0) in (
+    let behind = own + c .before .before .before .tree-part .result in
+    let b = behind-at t (c .before .before .before) in (
       omega (arith, both t (c .before .before .before .before) .smaller, c .before .before .before .before .before .before .before .before .before .before .before .before .before .before .before .before .before .before .before .before .pre .0),
-      inner-ready (both t (c .before .before .before .before)) (c .before .before .before .before .before .before .before .before .before .before .before .before .before .before .before .before .before .before .before .before .pre .1) (c .before .before .before .before .before .before .before .before .before .before .region-at .ensures .0) b _ (tail-length behind cells ∙ ap (λ (x : ℕ). x - behind) (back t (c .before .before .before .before .before .before .before .before) .0)),
+      inner-ready (both t (c .before .before .before .before)) (c .before .before .before .before .before .before .before .before .before .before .before .before .before .before .before .before .before .before .before .before .pre .1) (first t (c .before .before .before .before .before .before .before .before .before .before .before)) (c .before .before .before .before .before .before .before .before .before .before .region-at .ensures .0) b _ (tail-length behind cells ∙ ap (λ (x : ℕ). x - behind) (back t (c .before .before .before .before .before .before .before .before) .0)),
     )
 
--- src/eval.rt:191:5
+-- src/eval.rt:299:5
 pub binary-at-requires : (t : ℕ) → eval-lts.Need-binary-at-requires (eval-calls t) (eval-at t) eval.Post
 binary-at-requires t c κs =
     let R = c .before .before .before .before .before .before .before .before .before .before .before .before .before .before .before .before .before .before .before .before .before .before .before .before .pre .1 in
     let D = both t (c .before .before .before .before .before .before .before .before) in
+    let F = first t (c .before .before .before .before .before .before .before .before .before .before .before .before .before .before .before) in
     let o = c .before .before .before .before .before .before .before .before .before .before .before .before .before .before .region-at .ensures .0 in
-    let b = ap (λ (x : ℕ). c .before .before .before .before .before .before .before .before .before .before .before .before .before .before .region-at .result + x) (c .before .before .before .before .before .before .before .region-at2 .ensures .0) in
+    let b = behind-at t (c .before .before .before .before .before .before .before) in
     let few = c .before .before .before .before .before .before .before .before .before .before .before .before .eval .ensures .few in
     let few₂ = c .before .before .before .eval2 .ensures .few in
     let sound₂ = D .sound (R .sound) in (
-      (first t (c .before .before .before .before .before .before .before .before .before .before .before .before .before .before .before) .sound (R .sound), sound₂),
-      (
-        (pair t (c .before .before .before .before .before .before .before .before .before), R .bound, omega (arith, few₂, sound-bound sound₂), few-of D R o b _ _ few few₂),
-        (emitted-room D _ _ _ o few few₂, left-inside D R o b _ few, omega (arith, right-inside D R o b _ few₂, back₂ t (c .before .before .before) .0)),
-      ),
+      (F .sound (R .sound), sound₂, pair t (c .before .before .before .before .before .before .before .before .before), R .bound),
+      ((omega (arith, few₂, sound-bound sound₂), few-of D R F o b _ _ few few₂, omega (arith, right-inside D R F o b _ few₂, back₂ t (c .before .before .before) .0)), loop-room D R F o b _ _ few few₂),
     )
 
--- src/eval.rt:167:1
+-- src/eval.rt:275:1
 pub same-length-4 : (t : ℕ) → eval-lts.Need-same-length-4 (eval-calls t) (eval-at t) eval.Post
 same-length-4 t c = c .before .before .binary-at .kept .1 .1 .1 .1 .1 .0 ∙ back₂ t (c .before .before .before .before .before .before) .0
 
--- src/eval.rt:167:1
+-- src/eval.rt:275:1
 pub returns-5 : (t : ℕ) → eval-lts.Need-returns-5 (eval-calls t) (eval-at t) eval.Post
 returns-5 t c =
     let a = c .before .before .before .before .before .before .before .before .before .before .before .before .before .before .before .before .before .before .before .before .before .before .before .before .before .before .before .args in
     let own = c .before .before .before .before .before .before .before .before .before .before .before .before .before .before .before .before .before .region-at .result in
     let cells = putMid own (length (a .cells .now) - own) (a .cells .now) (c .before .before .before .before .before .before .before .before .before .before .before .before .before .before .before .eval .last .1 .1 .1 .0) in
-    let behind = own + c .before .before .before .before .before .before .before .before .before .before .region-at2 .result in
-    let b = ap (λ (x : ℕ). own + x) (c .before .before .before .before .before .before .before .before .before .before .region-at2 .ensures .0) in
+    let behind = own + c .before .before .before .before .before .before .before .before .before .before .tree-part .result in
+    let R = c .before .before .before .before .before .before .before .before .before .before .before .before .before .before .before .before .before .before .before .before .before .before .before .before .before .before .before .pre .1 in
+    let D = both t (c .before .before .before .before .before .before .before .before .before .before .before) in
+    let F = first t (c .before .before .before .before .before .before .before .before .before .before .before .before .before .before .before .before .before .before) in
     let o = c .before .before .before .before .before .before .before .before .before .before .before .before .before .before .before .before .before .region-at .ensures .0 in
-    binary-arm (both t (c .before .before .before .before .before .before .before .before .before .before .before)) own (length (a .cells .now) - own) behind (length cells - behind) (a .cells .now) (sym (c .before .before .before .before .before .before .before .before .before .is-nested .ensures) ∙ c .before .before .before .before .before .before .before .before .if4 .left) (own-fits (c .before .before .before .before .before .before .before .before .before .before .before .before .before .before .before .before .before .before .before .before .before .before .before .before .before .before .before .pre .1) (first t (c .before .before .before .before .before .before .before .before .before .before .before .before .before .before .before .before .before .before)) o) (back t (c .before .before .before .before .before .before .before .before .before .before .before .before .before .before .before) .1) (left-inside (both t (c .before .before .before .before .before .before .before .before .before .before .before)) (c .before .before .before .before .before .before .before .before .before .before .before .before .before .before .before .before .before .before .before .before .before .before .before .before .before .before .before .pre .1) o b _ (c .before .before .before .before .before .before .before .before .before .before .before .before .before .before .before .eval .ensures .few)) (beyond t (c .before .before .before .before .before .before .before .before .before .before)) (back₂ t (c .before .before .before .before .before .before) .1) (c .before .before .binary-at .ensures)
+    let few = c .before .before .before .before .before .before .before .before .before .before .before .before .before .before .before .eval .ensures .few in
+    let few₂ = c .before .before .before .before .before .before .eval2 .ensures .few in
+    binary-arm D own (length (a .cells .now) - own) behind (length cells - behind) (a .cells .now) (sym (c .before .before .before .before .before .before .before .before .before .is-nested .ensures) ∙ c .before .before .before .before .before .before .before .before .if4 .left) (own-fits R F o) (back t (c .before .before .before .before .before .before .before .before .before .before .before .before .before .before .before) .1) (loop-room D R F o (behind-at t (c .before .before .before .before .before .before .before .before .before .before)) _ _ few few₂ .apart) (beyond t (c .before .before .before .before .before .before .before .before .before .before)) (back₂ t (c .before .before .before .before .before .before) .1) (c .before .before .binary-at .ensures)

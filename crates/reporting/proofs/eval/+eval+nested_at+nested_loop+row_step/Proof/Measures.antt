@@ -18,6 +18,7 @@ use Rattle.reporting.proofs.eval.row_step.Reads as row-step
 use Rattle.reporting.proofs.eval.row_step.Kinds as row-step-kinds
 use Rattle.reporting.proofs.eval.+eval+nested_at+nested_loop+row_step.Lts-row_step as row-step-lts
 use Rattle.reading.proofs.kinds.children_of.Reads as children-of-reads
+use Rattle.reporting.proofs.columns.tree_part.Reads as tree-part-reads
 use Rattle.reading.proofs.plan.node_at.Reads as node-at-reads
 use Rattle.reading.proofs.tree.nodes_of.Reads as nodes-of-reads
 use Rattle.reading.proofs.tree.tree_end.Reads as tree-end-reads
@@ -72,7 +73,7 @@ row-step-below t =
     and 6 row-step-kinds.ps (falls 6 row-step-kinds.ps _<_ μ-row-step t) row-step.Pre
 
 abbrev pub eval-calls : ℕ → eval-lts.Claims
-eval-calls t = (nodes-of-reads.Asked, nodes-of-reads.Learnt, node-at-reads.Asked, node-at-reads.Learnt, children-of-reads.Asked, children-of-reads.Learnt, leaf-reads.Asked, leaf-reads.Learnt, region-at-reads.Asked, region-at-reads.Learnt, eval-below t, eval.Post, unary-at-reads.Asked, unary-at-reads.Learnt, tree-end-reads.Asked, tree-end-reads.Learnt, is-nested-reads.Asked, is-nested-reads.Learnt, nested-at-below t, nested-at.Post, binary-at-reads.Asked, binary-at-reads.Learnt)
+eval-calls t = (nodes-of-reads.Asked, nodes-of-reads.Learnt, node-at-reads.Asked, node-at-reads.Learnt, children-of-reads.Asked, children-of-reads.Learnt, leaf-reads.Asked, leaf-reads.Learnt, region-at-reads.Asked, region-at-reads.Learnt, eval-below t, eval.Post, unary-at-reads.Asked, unary-at-reads.Learnt, tree-end-reads.Asked, tree-end-reads.Learnt, tree-part-reads.Asked, tree-part-reads.Learnt, is-nested-reads.Asked, is-nested-reads.Learnt, nested-at-below t, nested-at.Post, binary-at-reads.Asked, binary-at-reads.Learnt)
 
 abbrev pub nested-at-calls : ℕ → nested-at-lts.Claims
 nested-at-calls t = (columns-into-reads.Asked, columns-into-reads.Learnt, nested-loop-below t, nested-loop.Post)

@@ -7,12 +7,12 @@ use Rattle.algebra.specs.Plans.{Row, bind}
 use Rattle.algebra.specs.Refusals.{bound}
 use Rattle.reading.specs.TableSet.{tablesOf}
 use Rattle.reading.specs.Tree.{operatorOf, planAt}
-use Rattle.reporting.specs.Rows.{envOf, emittedColumns, emittedMost}
+use Rattle.reporting.specs.Rows.{envOf}
 use borrow.Rule.Slice.PartMut.{putMid, same-len-mid}
-use Rattle.reporting.proofs.Chunks.{part-row, part-length, mono}
+use Rattle.reporting.proofs.Chunks.{part-row, part-length}
 use Rattle.reporting.proofs.Soundness.{sound-bound}
-use Rattle.reporting.proofs.Children.{most-mono}
-use Rattle.reporting.proofs.Arms.{Kid, kid-of, tail-length, rows-fit, step-arm, step-frame}
+use Rattle.reporting.proofs.Arms.{Kid, kid-of, rows-fit, step-less, step-arm}
+use Rattle.reporting.proofs.Lent.{tail-length}
 -- What `row_step` leaves to show.
 use Prim.Native.Nat.{ℕ, _*_, _-_}
 use Rattle.reporting.proofs.eval.row_step.Reads as row-step
@@ -42,94 +42,87 @@ back t c =
     let len : length last ≡ length cells - a .behind = c .eval .kept .1 .1 .1 .0 ∙ tail-length (a .behind) cells in
     (same-len-mid (a .behind) (length cells - a .behind) cells last (c .eval .kept .1 .1 .1 .0), kid-of (record { sound = r .sound; room = rw len (r .room); bound = r .bound }) (c .eval .ensures))
 
--- src/eval.rt:124:15
+-- src/eval.rt:179:15
 pub slice-aggregate-inner-env : (t : ℕ) → row-step-lts.Need-slice-aggregate-inner-env (row-step-calls t) (row-step-at t) row-step.Post
 slice-aggregate-inner-env t c = refl
 
--- src/eval.rt:124:50
+-- src/eval.rt:179:50
 pub add-inner-env : (t : ℕ) → row-step-lts.Need-add-inner-env (row-step-calls t) (row-step-at t) row-step.Post
-add-inner-env t c = omega (arith, c .before .before .before .before .before .before .before .pre .1 .1 .0, c .before .before .before .before .before .before .before .fits .behind)
+add-inner-env t c = omega (arith, c .before .before .before .before .before .before .before .pre .1 .1 .0 .apart, c .before .before .before .before .before .before .before .pre .1 .0 .2, c .before .before .before .before .before .before .before .good, c .before .before .before .before .before .before .before .fits .behind)
 
--- src/eval.rt:124:38
+-- src/eval.rt:179:38
 pub mul-inner-env : (t : ℕ) → row-step-lts.Need-mul-inner-env (row-step-calls t) (row-step-at t) row-step.Post
-mul-inner-env t c = omega (arith, c .before .before .before .before .before .before .before .pre .1 .1 .0, c .before .before .before .before .before .before .before .good)
+mul-inner-env t c = omega (arith, c .before .before .before .before .before .before .before .pre .1 .1 .0 .apart, c .before .before .before .before .before .before .before .pre .1 .0 .2, c .before .before .before .before .before .before .before .good, c .before .before .before .before .before .before .before .fits .behind)
 
--- src/eval.rt:124:38
+-- src/eval.rt:179:38
 pub sub-inner-env : (t : ℕ) → row-step-lts.Need-sub-inner-env (row-step-calls t) (row-step-at t) row-step.Post
-sub-inner-env t c = omega arith
+sub-inner-env t c = omega (arith, c .before .before .before .before .before .before .before .pre .1 .1 .0 .apart, c .before .before .before .before .before .before .before .pre .1 .0 .2, c .before .before .before .before .before .before .before .good, c .before .before .before .before .before .before .before .fits .behind)
 
--- src/eval.rt:124:38
+-- src/eval.rt:179:38
 pub part-inner-env-start : (t : ℕ) → row-step-lts.Need-part-inner-env-start (row-step-calls t) (row-step-at t) row-step.Post
-part-inner-env-start t c = omega arith
+part-inner-env-start t c = omega (arith, c .before .before .before .before .before .before .before .before .pre .1 .1 .0 .apart, c .before .before .before .before .before .before .before .before .pre .1 .0 .2, c .before .before .before .before .before .before .before .before .good, c .before .before .before .before .before .before .before .before .fits .behind)
 
--- src/eval.rt:124:38
+-- src/eval.rt:179:38
 pub part-inner-env-end : (t : ℕ) → row-step-lts.Need-part-inner-env-end (row-step-calls t) (row-step-at t) row-step.Post
-part-inner-env-end t c = omega (arith, c .before .before .before .before .before .before .before .before .pre .1 .1 .0)
+part-inner-env-end t c = omega (arith, c .before .before .before .before .before .before .before .before .pre .1 .1 .0 .apart, c .before .before .before .before .before .before .before .before .pre .1 .0 .2, c .before .before .before .before .before .before .before .before .good, c .before .before .before .before .before .before .before .before .fits .behind)
 
--- src/eval.rt:124:5
+-- src/eval.rt:179:5
 pub inner-env-requires : (t : ℕ) → row-step-lts.Need-inner-env-requires (row-step-calls t) (row-step-at t) row-step.Post
-inner-env-requires t c κs = let a = c .before .before .before .before .before .before .before .before .before .args in let s = c .before .before .before .before .before .before .before .before .before .pre .1 .1 in omega (arith, part-length (a .src) (length (a .ids .now)) (a .cells .now) (omega (arith, s .0)), s .1 .bound)
+inner-env-requires t c κs = let a = c .before .before .before .before .before .before .before .before .before .args in let s = c .before .before .before .before .before .before .before .before .before .pre .1 .1 in omega (arith, part-length (a .src) (length (a .ids .now)) (a .cells .now) (omega (arith, s .0 .apart, c .before .before .before .before .before .before .before .before .before .pre .1 .0 .2)), s .1 .bound)
 
--- src/eval.rt:125:36
+-- src/eval.rt:180:36
 pub mul-eval : (t : ℕ) → row-step-lts.Need-mul-eval (row-step-calls t) (row-step-at t) row-step.Post
-mul-eval t c = omega (arith, c .before .before .before .before .before .before .before .before .before .before .before .pre .1 .1 .0, c .before .before .before .before .before .before .before .before .before .before .before .good)
+mul-eval t c = omega (arith, c .before .before .before .before .before .before .before .before .before .before .before .pre .1 .0 .2, c .before .before .before .before .before .before .before .before .before .before .before .good)
 
--- src/eval.rt:125:36
+-- src/eval.rt:180:36
 pub sub-eval : (t : ℕ) → row-step-lts.Need-sub-eval (row-step-calls t) (row-step-at t) row-step.Post
-sub-eval t c = c .before .before .before .before .before .before .before .before .before .before .before .pre .1 .1 .0 .3
+sub-eval t c = c .before .before .before .before .before .before .before .before .before .before .before .pre .1 .0 .2
 
--- src/eval.rt:125:36
+-- src/eval.rt:180:36
 pub part-eval-start : (t : ℕ) → row-step-lts.Need-part-eval-start (row-step-calls t) (row-step-at t) row-step.Post
-part-eval-start t c = c .before .before .before .before .before .before .before .before .before .before .before .pre .1 .1 .0 .3
+part-eval-start t c = c .before .before .before .before .before .before .before .before .before .before .before .pre .1 .0 .2
 
--- src/eval.rt:125:36
+-- src/eval.rt:180:36
 pub part-eval-end : (t : ℕ) → row-step-lts.Need-part-eval-end (row-step-calls t) (row-step-at t) row-step.Post
 part-eval-end t c = omega arith
 
--- src/eval.rt:125:58
+-- src/eval.rt:180:58
 pub slice-aggregate-eval : (t : ℕ) → row-step-lts.Need-slice-aggregate-eval (row-step-calls t) (row-step-at t) row-step.Post
 slice-aggregate-eval t c = sym (c .before .before .before .inner-env .kept .0)
 
--- src/eval.rt:125:9
+-- src/eval.rt:180:9
 pub eval-requires : (t : ℕ) → row-step-lts.Need-eval-requires (row-step-calls t) (row-step-at t) row-step.Post
 eval-requires t c κs =
     let a = c .before .before .before .before .before .before .before .before .before .before .before .before .before .args in
     let r = c .before .before .before .before .before .before .before .before .before .before .before .before .before .pre .1 .1 .1 in
     (omega (arith, c .before .before .before .before .before .before .before .before .before .before .before .before .before .pre .0), record { sound = r .sound; room = rw (tail-length (a .behind) (a .cells .now)) (r .room); bound = c .before .before .before .inner-env .kept .0 })
 
--- src/eval.rt:126:63
+-- src/eval.rt:181:58
 pub slice-aggregate-emit-row : (t : ℕ) → row-step-lts.Need-slice-aggregate-emit-row (row-step-calls t) (row-step-at t) row-step.Post
 slice-aggregate-emit-row t c = sym (c .before .before .before .before .before .before .before .before .inner-env .kept .0)
 
--- src/eval.rt:126:5
+-- src/eval.rt:181:5
 pub emit-row-requires : (t : ℕ) → row-step-lts.Need-emit-row-requires (row-step-calls t) (row-step-at t) row-step.Post
 emit-row-requires t c κs =
     let a = c .before .before .before .before .before .before .before .before .before .before .before .before .before .before .before .before .before .before .args in
     let s = c .before .before .before .before .before .before .before .before .before .before .before .before .before .before .before .before .before .before .pre .1 in
     let r = s .1 .1 in
-    let i = s .1 .0 in
-    let op = operatorOf (a .node) in
     let g = c .before .before .before .before .eval .ensures in
-    let k = c .before .before .before .before .eval .result in
-    let most = bound (tablesOf (a .set .now)) (planAt (a .plan .now) (a .inner)) in
-    let wo = length (emittedColumns op (a .ids .now) (a .jds .now)) in (
+    let k = c .before .before .before .before .eval .result in (
       (c .before .before .before .before .before .before .before .before .inner-env .kept .0, omega (arith, g .few, sound-bound (r .sound)), s .0 .0),
-      (omega (arith, i .0, mono (emittedMost op k) (emittedMost op most) wo (most-mono op k most (g .few))), i .1, i .2, omega (arith, i .3, rows-fit k r (g .few), ap (λ (x : List ℕ). k * length x) (s .0 .1), back t (c .before .before .before .before) .0)),
+      (step-less k (s .1 .0) (g .few), omega (arith, s .0 .2, rows-fit k r (g .few), ap (λ (x : List ℕ). k * length x) (s .0 .1), back t (c .before .before .before .before) .0)),
     )
 
--- src/eval.rt:115:1
+-- src/eval.rt:158:1
 pub same-length : (t : ℕ) → row-step-lts.Need-same-length (row-step-calls t) (row-step-at t) row-step.Post
 same-length t c = c .before .before .emit-row .kept .1 .0 ∙ back t (c .before .before .before .before .before .before .before) .0
 
--- src/eval.rt:115:1
+-- src/eval.rt:158:1
 pub returns : (t : ℕ) → row-step-lts.Need-returns (row-step-calls t) (row-step-at t) row-step.Post
 returns t c =
     let a = c .before .before .before .before .before .before .before .before .before .before .before .before .before .before .before .before .before .before .before .before .before .args in
     let s = c .before .before .before .before .before .before .before .before .before .before .before .before .before .before .before .before .before .before .before .before .before .pre .1 in
-    let i = s .1 .0 in
-    let e = c .before .before .emit-row in
+    let room = s .1 .0 in
     let ys = c .before .before .before .before .before .before .before .eval .last .1 .1 .1 .0 in
-    let inside = c .before .before .before .before .before .before .before .before .before .before .before .inner-env .ensures ∙ ap (λ (x : Row). bind (a .ids .now) x (envOf (a .env .now))) (sym (part-row (a .src) (length (a .ids .now)) (a .cells .now))) in (
-      step-arm (a .cells .now) ys (a .ids .now) (a .own) (a .src) (a .behind) (i .1) (i .2) (i .3) (operatorOf (a .node)) (a .jds .now) (envOf (a .env .now)) (s .0 .1) inside (back t (c .before .before .before .before .before .before .before) .1) (e .ensures .0),
-      step-frame (a .cells .now) ys (a .ids .now) (a .own) (a .src) (a .behind) (i .1) (i .2) (i .3) (a .dst) (e .last .1 .0) (omega (arith, i .0)) (e .ensures .1),
-    )
+    let inside = c .before .before .before .before .before .before .before .before .before .before .before .inner-env .ensures ∙ ap (λ (x : Row). bind (a .ids .now) x (envOf (a .env .now))) (sym (part-row (a .src) (length (a .ids .now)) (a .cells .now))) in
+    step-arm (a .cells .now) ys (a .ids .now) (a .src) (a .behind) (room .apart) (s .0 .2) (operatorOf (a .node)) (a .jds .now) (a .env .now) (s .0 .1) inside (back t (c .before .before .before .before .before .before .before) .1) (omega (arith, room .below)) (c .before .before .emit-row .ensures)
