@@ -1,4 +1,4 @@
-//! Prints ratios of times, all measured in one run, as Markdown.
+//! Prints ratios of times, all measured in one run, and needs of scratch, as Markdown.
 //!
 //! Every call gets exactly the scratch that it needs and an output with room for any report. A call reads and checks its bytes each time,
 //! and clears its scratch at the end, as it promises to do; nothing else is cleared between calls.
@@ -7,17 +7,20 @@ mod plain;
 mod questions;
 mod sqlite;
 
-use questions::{in_sql, kinds, later, with_author, with_review, Question};
+use questions::{deepest, in_sql, kinds, later, with_author, with_review, Question};
 use second::archive;
-use second::calls::{try_steps, unnest_need};
+use second::calls::{try_steps, unnest_need, unnest_tree};
+use second::check::{need, need_before};
 use second::nodes::write_plan;
-use second::tables::write_set;
+use second::plan::Plan;
+use second::tables::{write_set, Table};
 use sqlite::Sqlite;
 use std::hint::black_box;
 use std::time::{Duration, Instant};
 
 fn main() {
     unnesting();
+    needs();
     against_others();
     growth();
 }
@@ -121,6 +124,34 @@ fn unnesting() {
         }
     }
     println!();
+}
+
+/// The needs of document 004's questions and of the deepest plan.
+fn needs() {
+    println!("### Scratch: the need in cells before K12 and now, at 1,000 rows\n");
+    println!(
+        "Select, Project, Semi, Anti, Some and Every count one row of their columns where they counted all rows.\n"
+    );
+    println!("| plan | before | now | before / now |");
+    println!("|---|---|---|---|");
+    for make in [with_review, with_author, later] {
+        let Question { name, tables, plan } = make(1000);
+        let (_, passed) = unnest_tree(&plan, &tables);
+        print_need(&format!("{name}, nested"), &plan, &tables);
+        print_need(&format!("{name}, joined"), &passed[1], &tables);
+        if passed.len() > 2 {
+            print_need(&format!("{name}, grouped"), &passed[passed.len() - 1], &tables);
+        }
+    }
+    let Question { name, tables, plan } = deepest();
+    print_need(&format!("the deepest plan: {name}"), &plan, &tables);
+    println!();
+}
+
+/// A line with the need of a plan before K12 and now.
+fn print_need(name: &str, plan: &Plan, tables: &[Table]) {
+    let (before, now) = (need_before(plan, tables), need(plan, tables));
+    println!("| {name} | {before} | {now} | {} |", ratio(before as f64, now as f64));
 }
 
 /// The steps of the archive's unnesting call.

@@ -86,12 +86,15 @@ pub fn rows(plan: &Plan, tables: &[Table]) -> Vec<Row> {
             let right = rows(right, tables);
             rows(left, tables).iter().flat_map(|row| right.iter().map(|more| [&row[..], more].concat())).collect()
         }
-        Plan::Distinct { list, child } => {
+        Plan::Select { test, child } => {
             let ids = columns(child, tables);
-            let places: Vec<usize> = list.iter().map(|&id| place(id, &ids)).collect();
+            rows(child, tables).into_iter().filter(|row| passes(test, &ids, row)).collect()
+        }
+        Plan::Project { list, child } => cut(&rows(child, tables), &columns(child, tables), list).collect(),
+        Plan::Distinct { list, child } => {
             let mut seen = HashSet::new();
-            let cut = |row: &Row| places.iter().map(|&place| row[place]).collect::<Row>();
-            rows(child, tables).iter().map(cut).filter(|row| seen.insert(row.clone())).collect()
+            let given = rows(child, tables);
+            cut(&given, &columns(child, tables), list).filter(|row| seen.insert(row.clone())).collect()
         }
         Plan::Sort { down: false, list, child } => {
             let ids = columns(child, tables);
@@ -121,6 +124,9 @@ pub fn rows(plan: &Plan, tables: &[Table]) -> Vec<Row> {
         Plan::Semi { left_key, right_key, test, left, right } => {
             matched(tables, left, right, (*left_key, *right_key), test, true)
         }
+        Plan::Anti { left_key, right_key, test, left, right } => {
+            matched(tables, left, right, (*left_key, *right_key), test, false)
+        }
         Plan::Some { test, left, inner } => {
             let (keys, right) = correlated(inner);
             matched(tables, left, right, keys, test, true)
@@ -131,6 +137,12 @@ pub fn rows(plan: &Plan, tables: &[Table]) -> Vec<Row> {
         }
         _ => unimplemented!("a kind that is not compared"),
     }
+}
+
+/// The rows cut to a list.
+fn cut<'a>(given: &'a [Row], ids: &[u8], list: &[u8]) -> impl Iterator<Item = Row> + 'a {
+    let places: Vec<usize> = list.iter().map(|&id| place(id, ids)).collect();
+    given.iter().map(move |row| places.iter().map(|&place| row[place]).collect())
 }
 
 /// The key columns and the child of a Select of equality.

@@ -46,6 +46,13 @@ pub fn later(height: usize) -> Question {
     Question { name: "3.3 authors with late books only", tables: vec![years], plan }
 }
 
+/// The deepest plan, 63 Selects over a Scan, over the largest table.
+pub fn deepest() -> Question {
+    let table = of_rows(1000, |row| (0..16).map(|column| (row + column) as i32).collect());
+    let plan = (0..63).fold(scan(0, 0), |plan, _| select(ALWAYS, plan));
+    Question { name: "63 Selects over a Scan of 16 columns", tables: vec![table], plan }
+}
+
 /// A left and a right side of so many rows each: a key out of a third as many, and a number up to 999. Over 1,000 rows they are the
 /// Cross of 1,000 with a table of 2 or 4, whose rows are numbered.
 struct Sides {
@@ -78,9 +85,12 @@ pub fn kinds(height: usize) -> Vec<Question> {
         Question { name, tables, plan: make(left, right, &ids) }
     };
     vec![
+        question("Select", &|left, _, _| select(number_test(1, Greater, 500), left)),
+        question("Project", &|left, _, ids| project(&ids.iter().rev().copied().collect::<Vec<u8>>(), left)),
         question("Some", &|left, right, _| some(late, left, inner(right))),
         question("Every", &|left, right, _| every(late, left, inner(right))),
         question("Semi", &|left, right, _| semi(0, 10, late, left, right)),
+        question("Anti", &|left, right, _| anti(0, 10, late, left, right)),
         question("Pair", &|left, right, _| pair(Aggregate::Sum(11), 20, keys(0, Equal, 10), left, right)),
         question("Group", &|left, _, _| group(Aggregate::Sum(1), 20, keys(21, Equal, 0), left)),
         question("Distinct", &|left, _, ids| distinct(ids, left)),
@@ -91,9 +101,12 @@ pub fn kinds(height: usize) -> Vec<Question> {
 /// The same questions in SQL, over tables a and b with columns k and v.
 pub fn in_sql(name: &str) -> &'static str {
     match name {
+        "Select" => "SELECT k, v FROM a WHERE v > 500",
+        "Project" => "SELECT v, k FROM a",
         "Some" => "SELECT k, v FROM a WHERE EXISTS (SELECT 1 FROM b WHERE b.k = a.k AND b.v > 500)",
         "Every" => "SELECT k, v FROM a WHERE NOT EXISTS (SELECT 1 FROM b WHERE b.k = a.k AND NOT b.v > 500)",
         "Semi" => "SELECT k, v FROM a WHERE k IN (SELECT k FROM b WHERE v > 500)",
+        "Anti" => "SELECT k, v FROM a WHERE k NOT IN (SELECT k FROM b WHERE v > 500)",
         "Pair" => "SELECT a.k, a.v, coalesce(t.s, 0) FROM a LEFT JOIN (SELECT k, sum(v) AS s FROM b GROUP BY k) t ON t.k = a.k",
         "Group" => "SELECT k, sum(v) FROM a GROUP BY k",
         "Distinct" => "SELECT DISTINCT k, v FROM a",

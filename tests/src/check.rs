@@ -139,13 +139,39 @@ pub fn bound(plan: &Plan, tables: &[Table]) -> u64 {
     }
 }
 
+/// Whether a node is of a kind that passes rows on without a region (request K12). In the need these kinds count one row.
+pub fn passes_rows_on(node: &Plan) -> bool {
+    match node {
+        Plan::Select { .. } | Plan::Project { .. } => true,
+        Plan::Semi { .. } | Plan::Anti { .. } | Plan::Some { .. } | Plan::Every { .. } => true,
+        Plan::Unit | Plan::Scan { .. } | Plan::Distinct { .. } | Plan::Cross { .. } | Plan::Fold { .. } => false,
+        Plan::Each { .. } | Plan::Pair { .. } | Plan::Group { .. } | Plan::Sort { .. } => false,
+    }
+}
+
+/// The rows that a node counts in the need: its bound, or one row where it passes rows on and its bound is not 0.
+fn counted_rows(node: &Plan, tables: &[Table]) -> u64 {
+    let bound = bound(node, tables);
+    if passes_rows_on(node) {
+        bound.min(1)
+    } else {
+        bound
+    }
+}
+
 /// The parts that the need of an accepted plan is the sum of, in cells: one for each node, in pre-order, and 4,096 besides.
 pub fn need_parts(plan: &Plan, tables: &[Table]) -> Vec<u64> {
-    let cells = |node: &Plan| bound(node, tables) * columns(node, tables).len() as u64;
+    let cells = |node: &Plan| counted_rows(node, tables) * columns(node, tables).len() as u64;
     plan.nodes().into_iter().map(cells).chain([4096]).collect()
 }
 
 /// The need in cells of a plan that is accepted.
 pub fn need(plan: &Plan, tables: &[Table]) -> u64 {
     need_parts(plan, tables).iter().sum()
+}
+
+/// The need as it was counted before request K12, with bound × columns for every node. It serves the comparison with that count only.
+pub fn need_before(plan: &Plan, tables: &[Table]) -> u64 {
+    let cells = |node: &Plan| bound(node, tables) * columns(node, tables).len() as u64;
+    4096 + plan.nodes().into_iter().map(cells).sum::<u64>()
 }

@@ -3,6 +3,7 @@
 use crate::build::*;
 use crate::cells::{BLANK, LARGEST, OFF_SCALE};
 use crate::generate::Input;
+use crate::in_place;
 use crate::plan::Comparison::{AtLeast, AtMost, Equal, Greater, Less, NotEqual};
 use crate::plan::{Aggregate, Plan, Test, ALWAYS, COMPARISONS};
 use crate::tables::Table;
@@ -33,7 +34,13 @@ fn cards_of_player() -> Plan {
 const ENDS: [i32; 6] = [-LARGEST, LARGEST, BLANK, OFF_SCALE, 0, -1];
 
 /// All edges.
-pub fn edges() -> Vec<(&'static str, Input)> {
+pub fn edges() -> Vec<(String, Input)> {
+    let named = limits().into_iter().map(|(name, input)| (name.to_string(), input));
+    named.chain(in_place::edges()).collect()
+}
+
+/// The edges but those of the kinds that pass rows on without a region.
+fn limits() -> Vec<(&'static str, Input)> {
     let mut all = Vec::new();
     let mut add = |name, tables: Vec<Table>, plan| all.push((name, Input { tables, plan }));
     let two = || vec![sized(2, 3), sized(3, 2)];

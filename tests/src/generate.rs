@@ -6,6 +6,7 @@ use crate::cells::{BLANK, LARGEST, OFF_SCALE};
 use crate::check::{bound, check_tree, columns};
 use crate::downward::keeping_equal_rows;
 use crate::evaluate::{column_cells, first_occurrences};
+use crate::in_place::{self, Tree, OTHERS, PASSING, TURNS};
 use crate::nodes::write_plan;
 use crate::plan::{Aggregate, Comparison, Form, Keys, Plan, Test, ALWAYS, COMPARISONS};
 use crate::random::Random;
@@ -37,6 +38,7 @@ pub fn accepted(random: &mut Random) -> Input {
         let input = match random.below(100) {
             0 => all_ids_taken(random),
             1 => bound_grows(random),
+            2..=3 => with_trees(random),
             _ => drawn(random),
         };
         let small = input.plan.size() <= 64 && cost(&input.plan, &input.tables) < 20_000;
@@ -44,6 +46,39 @@ pub fn accepted(random: &mut Random) -> Input {
             return input;
         }
     }
+}
+
+/// A random accepted input with nodes that pass rows on without a region below both children of others.
+pub fn in_place(random: &mut Random) -> Input {
+    loop {
+        let input = with_trees(random);
+        if cost(&input.plan, &input.tables) < 20_000 && check_tree(&input.plan, &input.tables).is_ok() {
+            return input;
+        }
+    }
+}
+
+/// A random tree of operators, three in four of them of the kinds that pass rows on, over tables of up to seven columns and eight rows. It may
+/// be refused for its width or bounds.
+fn with_trees(random: &mut Random) -> Input {
+    let widths = [0; 2].map(|_| random.between(1, 7));
+    let heights = [0; 2].map(|_| if random.chance(10) { random.below(2) } else { random.between(2, 8) });
+    let tables = in_place::tables(widths, heights);
+    let size = random.between(3, 8);
+    let tree = random_tree(random, size);
+    let plan = in_place::plan_of(&tree, &tables, random.below(TURNS));
+    Input { tables, plan }
+}
+
+/// A tree of so many operators.
+fn random_tree(random: &mut Random, size: usize) -> Tree {
+    if size == 0 {
+        return Tree::Table(random.below(2) as u8);
+    }
+    let operator = if random.chance(75) { random.pick(&PASSING) } else { random.pick(&OTHERS) };
+    let second = if operator.has_two() { random.below(size) } else { 0 };
+    let first = random_tree(random, size - 1 - second);
+    in_place::over(operator, first, random_tree(random, second))
 }
 
 /// A random input drawn top down. It may be refused for its width, bounds or node count.

@@ -8,11 +8,13 @@ use crate::build::*;
 use crate::calls;
 use crate::cases::{damaged_once, fault_case};
 use crate::cells::{BLANK, OFF_SCALE};
-use crate::check::need;
+use crate::check::{need, need_before};
 use crate::damage::{faults, Fault};
 use crate::downward::{decided_by_equal_rows, sorts_with_equal_rows};
 use crate::evaluate::{column_cells, first_occurrences};
-use crate::generate::{accepted, code, common_beginning, downward, steps, totals, unequal, with_between, Input};
+use crate::generate::{
+    accepted, code, common_beginning, downward, in_place, steps, totals, unequal, with_between, Input,
+};
 use crate::plan::Comparison::{Equal, NotEqual};
 use crate::plan::{Aggregate, Form, Plan, Test, COMPARISONS};
 use crate::random::Random;
@@ -45,6 +47,10 @@ pub struct Counts {
     pub decided: [usize; 3],
     /// What stood between nested steps and their Selects, and the steps through a Project.
     pub between: Met,
+    /// Accepted inputs whose need is below the one before request K12.
+    pub smaller_needs: usize,
+    /// Calls of the three that met 16 by the need before request K12 and do not now: those refused 15, and those answered.
+    pub no_longer_16: [[usize; 2]; 3],
 }
 
 impl Counts {
@@ -67,6 +73,7 @@ impl Counts {
             + &self.unequal_line()
             + &self.downward_line()
             + &self.between.lines()
+            + &self.need_line()
             + &format!("steps of the unnesting call{}\n", by_rule(&self.rules))
             + &format!("tried steps that fitted{}, that did not {}\n", by_rule(&self.tried), self.tried[0])
     }
@@ -85,6 +92,24 @@ impl Counts {
         let [reports, steps, notes] = self.decided;
         format!("downward Sorts with rows equal in all listed columns {}, ", self.equal_rows)
             + &format!("whose order decided the report {reports}, the steps {steps}, the first node's note {notes}\n")
+    }
+
+    /// The counts of needs below those before request K12, as a line of text.
+    pub fn need_line(&self) -> String {
+        let [report, unnest, [_, notes]] = self.no_longer_16;
+        let of_call = |[short, answered]: [usize; 2]| format!("answered {answered}, refused 15 {short}");
+        format!("needs below those before K12 {}; calls that met 16 by those and do not now: ", self.smaller_needs)
+            + &format!("report {}; unnest {}; stay note answered {notes}\n", of_call(report), of_call(unnest))
+    }
+
+    /// Counts a call (0 report, 1 unnest, 2 stay note) if it met 16 by the need before request K12 and does not now.
+    fn count_no_longer_16(&mut self, call: usize, scratch: usize, before: usize, refusal: Option<u8>) {
+        match refusal {
+            _ if scratch >= before => {}
+            None => self.no_longer_16[call][1] += 1,
+            Some(15) => self.no_longer_16[call][0] += 1,
+            Some(_) => {}
+        }
     }
 
     /// Counts the downward Sorts of an accepted plan that have rows equal in all listed columns, and what their order decides.
@@ -166,7 +191,8 @@ pub fn hold_seeds(seed: u64, count: u64, counts: &mut Counts) -> Result<(), Stri
 /// A random input: accepted; with one fault or two; or with bytes changed, cut off or put on anywhere.
 fn drawn(random: &mut Random, faults: &[Fault]) -> (Vec<u8>, Vec<u8>) {
     match random.below(100) {
-        0..=48 => bytes_of(&accepted(random)),
+        0..=46 => bytes_of(&accepted(random)),
+        47..=48 => bytes_of(&in_place(random)),
         49..=50 => bytes_of(&with_between(random)),
         51..=52 => bytes_of(&downward(random)),
         53..=54 => bytes_of(&unequal(random)),
@@ -261,18 +287,31 @@ fn below(room: usize) -> usize {
     room.saturating_sub(1)
 }
 
-/// The reporting call at the edge of both rooms, and at one pair of rooms around it.
+/// Half of the time one less than a room.
+fn often_below(random: &mut Random, room: usize) -> usize {
+    if random.chance(50) {
+        below(room)
+    } else {
+        room
+    }
+}
+
+/// The reporting call at the edge of both rooms, with one cell of scratch less, and at one pair of rooms around it; and with scratch that was
+/// below the need before request K12 and no longer is.
 pub fn hold_report(random: &mut Random, set: &[u8], plan: &[u8], counts: &mut Counts) -> Result<(), String> {
-    let (cells, need) = match calls::read(set, plan) {
+    let (cells, need, before) = match calls::read(set, plan) {
         Ok((tables, tree)) => {
+            let (need, before) = (need(&tree, &tables) as usize, need_before(&tree, &tables) as usize);
+            assert!(need <= before, "a need of {need} cells that was {before}");
+            counts.smaller_needs += usize::from(need < before);
             let report = calls::report_of(&tree, &tables);
             counts.count_sums(&tree, &report);
             counts.count_unequal(&tree, &tables);
             counts.count_downward(&tree, &tables);
             counts.between.count(&tree, &tables);
-            (report.codes.len(), need(&tree, &tables) as usize)
+            (report.codes.len(), need, before)
         }
-        Err(_) => (random.below(9), random.below(5000)),
+        Err(_) => (random.below(9), random.below(5000), 0),
     };
     let around = match random.below(6) {
         0 => (below(cells), need),
@@ -282,12 +321,14 @@ pub fn hold_report(random: &mut Random, set: &[u8], plan: &[u8], counts: &mut Co
         4 => (random.below(cells + 1), need),
         _ => (cells + random.below(40), need + random.below(400)),
     };
-    for (out, scratch) in [(cells, need), around] {
+    let no_longer_16 = (need < before).then(|| (often_below(random, cells), random.between(need, before - 1)));
+    for (out, scratch) in [(cells, need), (cells, below(need)), around].into_iter().chain(no_longer_16) {
         let rooms = format!("report with room {out} and scratch {scratch}");
         let expected = calls::report(set, plan, out, scratch);
         let (word, codes) =
             archive::report(random, set, plan, out, scratch).map_err(|error| format!("{rooms}: {error}"))?;
         counts.reports[expected.as_ref().err().map_or(0, |&number| usize::from(number))] += 1;
+        counts.count_no_longer_16(0, scratch, before, expected.as_ref().err().copied());
         let right = calls::report_word(&expected);
         if word != right {
             return Err(format!("{rooms}: the word is {word:#x} and not {right:#x}"));
@@ -324,14 +365,20 @@ fn hold_tried_steps(random: &mut Random, set: &[u8], plan: &[u8], counts: &mut C
     Ok(())
 }
 
-/// The unnesting call at the edge of its three rooms, and at rooms around it; and the report of the plan that it leaves.
+/// The unnesting call at the edge of its three rooms, at rooms around it, and with scratch that was below the need before request K12 and no
+/// longer is; and the report of the plan that it leaves.
 pub fn hold_unnest(random: &mut Random, set: &[u8], plan: &[u8], counts: &mut Counts) -> Result<(), String> {
     let left = calls::unnest(set, plan, calls::ROOMY, calls::ROOMY, calls::ROOMY);
-    let (bytes, step_bytes, need) = match &left {
+    let (bytes, step_bytes, need, before) = match &left {
         Ok(left) => {
-            (left.plan.len(), 2 * left.steps.len(), calls::unnest_need(set, plan).expect("an accepted plan") as usize)
+            let (tables, tree) = calls::read(set, plan).expect("an accepted plan");
+            let (_, passed) = calls::unnest_tree(&tree, &tables);
+            let largest = |count: fn(&Plan, &[Table]) -> u64| {
+                passed.iter().map(|plan| count(plan, &tables)).max().expect("the given plan") as usize
+            };
+            (left.plan.len(), 2 * left.steps.len(), largest(need), largest(need_before))
         }
-        Err(_) => (random.below(9), random.below(9), random.below(5000)),
+        Err(_) => (random.below(9), random.below(9), random.below(5000), 0),
     };
     let around = match random.below(7) {
         0 => (below(bytes), step_bytes, need),
@@ -342,12 +389,15 @@ pub fn hold_unnest(random: &mut Random, set: &[u8], plan: &[u8], counts: &mut Co
         5 => (random.below(bytes + 1), random.below(step_bytes + 1), need),
         _ => (bytes + random.below(40), step_bytes + random.below(9), need + random.below(400)),
     };
-    for (plan_room, step_room, scratch) in [(bytes, step_bytes, need), around] {
+    let no_longer_16 = (need < before)
+        .then(|| (often_below(random, bytes), often_below(random, step_bytes), random.between(need, before - 1)));
+    for (plan_room, step_room, scratch) in [(bytes, step_bytes, need), around].into_iter().chain(no_longer_16) {
         let rooms = format!("unnest with rooms {plan_room}, {step_room} and scratch {scratch}");
         let expected = calls::unnest(set, plan, plan_room, step_room, scratch);
         let (word, plan_left, steps) = archive::unnest(random, set, plan, plan_room, step_room, scratch)
             .map_err(|error| format!("{rooms}: {error}"))?;
         counts.unnestings[expected.as_ref().err().map_or(0, |&number| usize::from(number))] += 1;
+        counts.count_no_longer_16(1, scratch, before, expected.as_ref().err().copied());
         let right = calls::unnest_word(&expected);
         if word != right {
             return Err(format!("{rooms}: the word is {word:#x} and not {right:#x}"));
@@ -371,27 +421,30 @@ pub fn hold_unnest(random: &mut Random, set: &[u8], plan: &[u8], counts: &mut Co
 /// The stay note call at a few places: one where a note is due if there is one, anywhere, and past the last node.
 fn hold_stay_notes(random: &mut Random, set: &[u8], plan: &[u8], counts: &mut Counts) -> Result<(), String> {
     let read = calls::read(set, plan);
-    let (size, due, need) = match &read {
+    let (size, due, need, before) = match &read {
         Ok((tables, tree)) => {
             let due = |&place: &usize| stay_position(tree, place, tables).is_some();
-            (tree.size(), (0..tree.size()).find(due), need(tree, tables) as usize)
+            let (need, before) = (need(tree, tables) as usize, need_before(tree, tables) as usize);
+            (tree.size(), (0..tree.size()).find(due), need, before)
         }
-        Err(_) => (random.between(1, 9), None, random.below(5000)),
+        Err(_) => (random.between(1, 9), None, random.below(5000), 0),
     };
     let shown = due.unwrap_or_else(|| random.below(size));
     let past = [size, 64, 255, 256 + shown, (1 << 32) + shown, usize::MAX];
     let places = [shown, random.below(size), random.pick(&past)];
     for place in places {
-        let scratch = match random.below(6) {
+        let scratch = match random.below(7) {
             0 => below(need),
             1 => random.below(need + 1),
             2 => need + random.below(400),
+            3 if need < before => random.between(need, before - 1),
             _ => need,
         };
         let call = format!("stay note for {place} with scratch {scratch}");
         let expected = calls::stay_note(set, plan, place, scratch);
         let word = archive::stay_note(random, set, plan, place, scratch).map_err(|error| format!("{call}: {error}"))?;
         counts.stay_notes[expected.as_ref().err().map_or(0, |&number| usize::from(number))] += 1;
+        counts.count_no_longer_16(2, scratch, before, expected.as_ref().err().copied());
         let right = calls::stay_note_word(&expected);
         if word != right {
             return Err(format!("{call}: the word is {word:#x} and not {right:#x}, as {expected:?} is due"));

@@ -21,6 +21,7 @@ pub mod evaluate;
 pub mod generate;
 #[cfg(archive)]
 pub mod held;
+pub mod in_place;
 pub mod listings;
 pub mod nodes;
 pub mod pages;

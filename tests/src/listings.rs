@@ -6,6 +6,7 @@ use crate::cells::{BLANK, LARGEST, OFF_SCALE};
 use crate::edges::{club, club_with_project};
 use crate::generate::Input;
 use crate::nodes::write_plan;
+use crate::plan::Comparison::NotEqual;
 use crate::plan::{Plan, ALWAYS};
 use crate::tables::{write_set, Table};
 
@@ -69,12 +70,16 @@ pub fn large_runs() -> Vec<Run> {
     ninth.push(b'T');
     let mut longer = ninth.clone();
     longer.extend([0; 5000]);
+    let selects = || (0..63).fold(scan(0, 0), |plan, number| select(number_test(number % 5, NotEqual, 6), plan));
     let largest = (0..63).fold(scan(0, 0), |plan, _| select(ALWAYS, plan));
     let mut tail = write_plan(&largest);
     tail.extend([0; 30]);
     vec![
         Run::of("the largest report", vec![sized(16, 64)], wide()),
-        Run::of("scratch below the need", vec![sized(16, 64)], select(ALWAYS, wide())),
+        Run::of("scratch below the need", vec![sized(16, 64)], sort(false, &[0], wide())),
+        // These two needed 268,288 cells and 1,028,096 before request K12.
+        Run::of("a Select over the largest report", vec![sized(16, 64)], select(number_test(0, NotEqual, 3), wide())),
+        Run::of("63 Selects over the largest table", vec![sized(16, 1000)], selects()),
         Run::of("the largest set", full.clone(), scan(7, 0)),
         Run { name: "a byte after the largest set", set: Some(ninth), plan: Some(write_plan(&scan(7, 0))) },
         Run { name: "a set far too long", set: Some(longer), plan: Some(write_plan(&scan(7, 0))) },

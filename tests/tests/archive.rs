@@ -4,13 +4,14 @@
 mod held {
     use second::archive;
     use second::build::*;
-    use second::calls::need_of;
+    use second::calls::{need_of, report, report_word, ROOMY};
     use second::cases::cases;
     use second::cells::{is_number, BLANK, LARGEST, OFF_SCALE};
     use second::check::columns;
     use second::edges::edges;
     use second::generate::Input;
     use second::held::{hold, hold_report, hold_seeds, hold_unnest, Counts};
+    use second::in_place::{over, plan_of, tables, Operator, Tree};
     use second::nodes::write_plan;
     use second::plan::Comparison::{Equal, Greater, Less};
     use second::plan::{Aggregate, Comparison, Plan, Test, ALWAYS, COMPARISONS};
@@ -41,6 +42,9 @@ mod held {
             met(&between.between, 20) && met(between.through.as_flattened(), 10) && between.first >= 40,
             "{between:?}"
         );
+        let [report, unnest, [_, notes]] = counts.no_longer_16;
+        assert!(counts.smaller_needs >= 5_000, "{}", counts.smaller_needs);
+        assert!(met(&report, 2_000) && met(&unnest, 2_000) && notes >= 2_000, "{:?}", counts.no_longer_16);
     }
 
     #[test]
@@ -49,7 +53,7 @@ mod held {
         let mut random = Random::new(5);
         for (name, input) in edges() {
             for _ in 0..6 {
-                hold(&mut random, &input.set_bytes(), &input.plan_bytes(), &mut counts).expect(name);
+                hold(&mut random, &input.set_bytes(), &input.plan_bytes(), &mut counts).expect(&name);
             }
         }
         for case in cases() {
@@ -234,8 +238,8 @@ mod held {
         others.into_iter().chain(selects).collect()
     }
 
-    /// The node over a plan. A Distinct is of all columns.
-    fn over(child: Plan, node: &Unary, tables: &[Table]) -> Plan {
+    /// A plan under the node. A Distinct is of all columns.
+    fn under(child: Plan, node: &Unary, tables: &[Table]) -> Plan {
         match node {
             Unary::ProjectWithKey => project(&[3, 1, 2], child),
             Unary::ProjectWithoutKey => project(&[2, 3], child),
@@ -256,7 +260,7 @@ mod held {
         let players = || distinct(&[0], scan(0, 0));
         let over_32 = number_test(2, Greater, 32);
         for chain in short_lists(&unary_nodes(), 3) {
-            let inner = chain.iter().fold(scan(1, 1), |child, node| over(child, node, &tables));
+            let inner = chain.iter().fold(scan(1, 1), |child, node| under(child, node, &tables));
             for plan in [
                 some(over_32, players(), inner.clone()),
                 every(over_32, players(), inner.clone()),
@@ -274,6 +278,64 @@ mod held {
         // Scan or over one of the four nodes that keep the key and do not name e's column.
         assert_eq!(counts.between.through, [[10, 10], [10, 10], [20, 20]]);
         assert_eq!(counts.between.first, 80);
+    }
+
+    /// The operators of the trees that are tried: the kinds that pass rows on, a Project with all columns and one with two, and others.
+    const OPERATORS: [Operator; 11] = [
+        Operator::Select,
+        Operator::ProjectRotated,
+        Operator::ProjectShorter,
+        Operator::Semi,
+        Operator::Anti,
+        Operator::Some,
+        Operator::Every,
+        Operator::Distinct,
+        Operator::Sort,
+        Operator::Fold,
+        Operator::Cross,
+    ];
+
+    /// All trees of so many operators. Where a second child is a table it is table 1, else table 0.
+    fn trees(size: usize, table: u8) -> Vec<Tree> {
+        if size == 0 {
+            return vec![Tree::Table(table)];
+        }
+        let mut all = Vec::new();
+        for second in 0..size {
+            let (firsts, seconds) = (trees(size - 1 - second, 0), trees(second, 1));
+            for operator in OPERATORS.into_iter().filter(|operator| operator.has_two() || second == 0) {
+                // Without a second child the table given for it is left out.
+                let every_two = firsts.iter().flat_map(|first| seconds.iter().map(move |other| (first, other)));
+                all.extend(every_two.map(|(first, other)| over(operator, first.clone(), other.clone())));
+            }
+        }
+        all
+    }
+
+    #[test]
+    fn k12_trees_of_up_to_four_operators_are_reported_within_the_need() {
+        let mut random = Random::new(11);
+        let mut counts = [0; 2];
+        let sizes = [[3, 2], [0, 2], [3, 0], [1, 3]].map(|heights| (heights, 3)).into_iter().chain([([3, 2], 4)]);
+        for (heights, most) in sizes {
+            let tables = tables([3, 2], heights);
+            let set = write_set(&tables);
+            let all = if most == 4 { trees(4, 0) } else { (0..=most).flat_map(|size| trees(size, 0)).collect() };
+            for (turn, tree) in all.iter().enumerate() {
+                let plan = write_plan(&plan_of(tree, &tables, turn));
+                let need = need_of(&set, &plan).expect("an accepted plan") as usize;
+                let expected = report(&set, &plan, ROOMY, need);
+                let right = (report_word(&expected), expected.expect("a report").codes);
+                let given = archive::report(&mut random, &set, &plan, right.1.len(), need);
+                assert_eq!(given, Ok(right), "{tree} over {heights:?} rows");
+                let below = archive::report(&mut random, &set, &plan, 0, need - 1);
+                assert_eq!(below, Ok((16, vec![])), "{tree} over {heights:?} rows");
+                counts[usize::from(most == 4)] += 1;
+            }
+        }
+        println!("trees of up to three operators over four pairs of tables {}, of four {}", counts[0], counts[1]);
+        // With 5 operators of one child and 6 of two there are 1, 11, 187, 3,905 and 91,069 trees of 0 to 4 operators.
+        assert_eq!(counts, [4 * (1 + 11 + 187 + 3_905), 91_069]);
     }
 }
 

@@ -68,7 +68,7 @@ place                                    columns   bound  rows
 7  │        │  └─ Scan of table 1 as c1  c1        1      (2)
 8  │        └─ Unit                      none      1      ()
 9  └─ Scan of table 2 as c3              c3        0      none
-weight 5; need 6 + 6 + 2 + 2 + 1 + 1 + 1 + 1 + 0 + 0 + 4,096 = 4,116
+weight 5; need 3 + 6 + 2 + 2 + 1 + 1 + 1 + 1 + 0 + 0 + 4,096 = 4,113
 ";
     assert_eq!(text, expected);
 }

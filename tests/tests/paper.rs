@@ -3,9 +3,10 @@
 use second::build::*;
 use second::calls::*;
 use second::cells::{BLANK, LARGEST, OFF_SCALE};
-use second::check::{columns, need};
+use second::check::{columns, need, need_before, need_parts};
 use second::edges::{club, club_with_project, edges, every_kind};
 use second::generate::Input;
+use second::listings::{large_runs, SCRATCH};
 use second::nodes::{write_plan, HEADER, NODE};
 use second::plan::Comparison::{AtLeast, AtMost, Equal, Greater, Less, NotEqual};
 use second::plan::{Aggregate, Comparison, Plan, Test, ALWAYS, COMPARISONS};
@@ -166,8 +167,8 @@ fn of_two_faults_the_first_in_order_decides() {
 fn need_counts_every_node() {
     let tables = [sized(2, 3), sized(3, 5)];
     let plan = project(&[0], each(scan(0, 0), select(ALWAYS, scan(1, 2))));
-    // Project 15, Each 75, Scan 6, Select 15, Scan 15.
-    assert_eq!(need(&plan, &tables), 4096 + 15 + 75 + 6 + 15 + 15);
+    // Project 1, Each 75, Scan 6, Select 3, Scan 15.
+    assert_eq!(need(&plan, &tables), 4096 + 1 + 75 + 6 + 3 + 15);
     assert_eq!(need(&Plan::Unit, &[]), 4096);
 }
 
@@ -1645,22 +1646,22 @@ fn k1_needs_of_the_plans_passed_through() {
     let needs = |plan: &Plan, tables: &[Table]| -> Vec<u64> {
         unnest_tree(plan, tables).1.iter().map(|plan| need(plan, tables) - 4096).collect()
     };
-    // Some 2, Distinct 2, Scan 2, Project 4, Select 20, Scan 20; Semi 2 for the Some, without the Project and the Select; a Select of
-    // all five columns, 20, where the Project had one; Project 4, Select 8, Group 8, Scan 20.
-    assert_eq!(needs(&plan, &tables), [50, 26, 46, 40]);
+    // Some 1, Distinct 2, Scan 2, Project 1, Select 5, Scan 20; Semi 1 for the Some, without the Project and the Select; a Select of
+    // all five columns, 5, where the Project had one; Project 1, Select 2, Group 8, Scan 20.
+    assert_eq!(needs(&plan, &tables), [31, 25, 30, 31]);
     assert_eq!(columns(plan.at(3).expect("the Project"), &tables), [3]);
     let after = fit(&plan, 0, &tables).expect("U1").1;
     assert_eq!(columns(after.at(3).expect("g"), &tables), [1, 2, 3, 4, 5]);
     // One column in g, and one left row: the last plan has the largest need, where before the request no rule fitted.
     let tables = [one_column(&[1]), one_column(&[1; 4])];
     let plan = some(number_test(1, Less, 3), players(), inner(&[1]));
-    assert_eq!(needs(&plan, &tables), [15, 7, 11, 24]);
+    assert_eq!(needs(&plan, &tables), [9, 7, 8, 15]);
     let (set, bytes) = (write_set(&tables), write_plan(&plan));
-    assert_eq!(report(&set, &bytes, 1, 4096 + 15).map(|report| report.codes), Ok(vec![1]));
-    assert_eq!(unnest(&set, &bytes, ROOMY, ROOMY, 4096 + 15), Err(16));
-    assert_eq!(unnest(&set, &bytes, ROOMY, ROOMY, 4096 + 23), Err(16));
-    assert_eq!(unnest(&set, &bytes, 0, 0, 4096 + 24), Err(15));
-    let left = unnest(&set, &bytes, HEADER + 4 * NODE, 6, 4096 + 24).expect("steps");
+    assert_eq!(report(&set, &bytes, 1, 4096 + 9).map(|report| report.codes), Ok(vec![1]));
+    assert_eq!(unnest(&set, &bytes, ROOMY, ROOMY, 4096 + 9), Err(16));
+    assert_eq!(unnest(&set, &bytes, ROOMY, ROOMY, 4096 + 14), Err(16));
+    assert_eq!(unnest(&set, &bytes, 0, 0, 4096 + 15), Err(15));
+    let left = unnest(&set, &bytes, HEADER + 4 * NODE, 6, 4096 + 15).expect("steps");
     assert_eq!(left.steps, [(1, 0), (7, 0), (3, 0)]);
 }
 
@@ -1674,6 +1675,345 @@ fn k1_a_plan_of_64_nodes_has_room() {
     let (steps, passed) = unnest_tree(&full, &tables);
     assert_eq!(steps, [(2, 58), (7, 58), (4, 58)]);
     assert_eq!(passed.iter().map(Plan::size).collect::<Vec<_>>(), [64, 62, 63, 62]);
+}
+
+/// What each node counts in the need of an accepted plan, in pre-order. The 4,096 come once, behind them.
+fn counted(tables: &[Table], plan: &Plan) -> Vec<u64> {
+    assert_eq!(refusal(tables, plan), None);
+    let mut parts = need_parts(plan, tables);
+    assert_eq!(parts.pop(), Some(4096));
+    assert_eq!(parts.len(), plan.size());
+    assert_eq!(need(plan, tables), 4096 + parts.iter().sum::<u64>());
+    parts
+}
+
+#[test]
+fn k12_each_of_the_six_kinds_counts_one_row() {
+    let tables = [sized(3, 5), sized(2, 4)];
+    let (left, right) = (|| scan(0, 0), || scan(1, 10));
+    // One row of three columns beside the Scan's five, whatever the test lets pass.
+    for test in [ALWAYS, NEVER, number_test(0, Equal, 3)] {
+        assert_eq!(counted(&tables, &select(test, left())), [3, 15]);
+        for plan in [
+            semi(0, 10, test, left(), right()),
+            anti(0, 10, test, left(), right()),
+            some(test, left(), right()),
+            every(test, left(), right()),
+        ] {
+            assert_eq!(counted(&tables, &plan), [3, 15, 8], "{plan:?}");
+            assert_eq!(need_before(&plan, &tables), 4096 + 15 + 15 + 8, "{plan:?}");
+        }
+    }
+    assert_eq!(counted(&tables, &project(&[2, 0], left())), [2, 15]);
+    assert_eq!(need_before(&project(&[2, 0], left()), &tables), 4096 + 10 + 15);
+    // Over a bound of 1 it is as before.
+    let one = [sized(3, 1), sized(2, 4)];
+    assert_eq!(counted(&one, &select(ALWAYS, left())), [3, 3]);
+    assert_eq!(need_before(&select(ALWAYS, left()), &one), need(&select(ALWAYS, left()), &one));
+}
+
+#[test]
+fn k12_none_where_the_bound_is_0() {
+    let tables = [sized(3, 0), sized(2, 4), sized(3, 5)];
+    assert_eq!(counted(&tables, &select(ALWAYS, scan(0, 0))), [0, 0]);
+    assert_eq!(counted(&tables, &project(&[1], scan(0, 0))), [0, 0]);
+    let of = |left: &dyn Fn() -> Plan, key, right: &dyn Fn() -> Plan, right_key| {
+        [
+            semi(key, right_key, ALWAYS, left(), right()),
+            anti(key, right_key, ALWAYS, left(), right()),
+            some(ALWAYS, left(), right()),
+            every(ALWAYS, left(), right()),
+        ]
+    };
+    let (none, four, five) = (|| scan(0, 0), || scan(1, 10), || scan(2, 20));
+    // The left rows decide. With an empty right table there is one row.
+    for plan in of(&none, 0, &four, 10) {
+        assert_eq!(counted(&tables, &plan), [0, 0, 8], "{plan:?}");
+    }
+    for plan in of(&five, 20, &none, 0) {
+        assert_eq!(counted(&tables, &plan), [3, 15, 0], "{plan:?}");
+    }
+    // A bound of 0 by a Cross; an Each has none, as it counts an empty inner plan as 1.
+    assert_eq!(counted(&tables, &select(ALWAYS, cross(four(), none()))), [0, 0, 8, 0]);
+    assert_eq!(counted(&tables, &project(&[1], cross(none(), four()))), [0, 0, 0, 8]);
+    assert_eq!(counted(&tables, &select(ALWAYS, each(four(), none()))), [5, 20, 8, 0]);
+    assert_eq!(counted(&tables, &each(four(), select(ALWAYS, none()))), [20, 8, 0, 0]);
+    // A Select that lets nothing pass has its child's bound.
+    assert_eq!(counted(&tables, &project(&[10], select(NEVER, four()))), [1, 2, 8]);
+}
+
+#[test]
+fn k12_the_other_kinds_count_bound_times_columns() {
+    let tables = [sized(3, 5), sized(2, 4)];
+    let (left, right) = (|| scan(0, 0), || scan(1, 10));
+    let by_key = keys(0, Equal, 10);
+    for (plan, expected) in [
+        (Plan::Unit, vec![0]),
+        (left(), vec![15]),
+        (distinct(&[1], left()), vec![5, 15]),
+        (distinct(&[2, 0], left()), vec![10, 15]),
+        (sort(true, &[1], left()), vec![15, 15]),
+        (group(Aggregate::Count, 8, keys(9, Equal, 1), left()), vec![10, 15]),
+        (fold(Aggregate::Count, 9, ALWAYS, left(), right()), vec![20, 15, 8]),
+        (pair(Aggregate::Count, 9, by_key, left(), right()), vec![20, 15, 8]),
+        (cross(left(), right()), vec![100, 15, 8]),
+        (each(left(), right()), vec![100, 15, 8]),
+    ] {
+        assert_eq!(counted(&tables, &plan), expected, "{plan:?}");
+        assert_eq!(need(&plan, &tables), need_before(&plan, &tables), "{plan:?}");
+    }
+    // The bound of a Select is its child's still: it is the Select's own count that is one row.
+    let few = || select(number_test(0, Equal, 3), left());
+    for (plan, expected) in [
+        (distinct(&[1], few()), vec![5, 3, 15]),
+        (sort(false, &[1], few()), vec![15, 3, 15]),
+        (group(Aggregate::Count, 8, keys(9, Equal, 1), few()), vec![10, 3, 15]),
+        (fold(Aggregate::Count, 9, ALWAYS, few(), right()), vec![20, 3, 15, 8]),
+        (pair(Aggregate::Count, 9, by_key, few(), right()), vec![20, 3, 15, 8]),
+        (cross(few(), right()), vec![100, 3, 15, 8]),
+        (cross(right(), few()), vec![100, 8, 3, 15]),
+        (each(few(), right()), vec![100, 3, 15, 8]),
+        (each(right(), few()), vec![100, 8, 3, 15]),
+    ] {
+        assert_eq!(counted(&tables, &plan), expected, "{plan:?}");
+    }
+    let tall = [sized(1, 65), sized(1, 64)];
+    assert_eq!(refusal(&tall, &cross(select(NEVER, left()), select(NEVER, right()))), Some(14));
+    assert_eq!(refusal(&tall, &each(project(&[0], left()), right())), Some(14));
+}
+
+#[test]
+fn k12_a_project_counts_its_own_columns() {
+    let tables = [sized(16, 4)];
+    let wide = || scan(0, 0);
+    for (plan, expected) in [
+        (project(&[3], wide()), vec![1, 64]),
+        (project(&[15, 3, 0, 1, 2, 5, 4], wide()), vec![7, 64]),
+        (project(&[0], project(&[1, 0], wide())), vec![1, 2, 64]),
+        (select(ALWAYS, project(&[5], wide())), vec![1, 1, 64]),
+        (project(&[5, 6], select(ALWAYS, wide())), vec![2, 16, 64]),
+        // A Distinct of as many columns counts four rows of them.
+        (distinct(&[5, 6], select(ALWAYS, wide())), vec![8, 16, 64]),
+    ] {
+        assert_eq!(counted(&tables, &plan), expected, "{plan:?}");
+    }
+}
+
+#[test]
+fn k12_rows_of_no_columns_count_0() {
+    let tables = [sized(3, 5)];
+    assert_eq!(counted(&tables, &select(ALWAYS, Plan::Unit)), [0, 0]);
+    assert_eq!(counted(&tables, &some(ALWAYS, Plan::Unit, scan(0, 0))), [0, 0, 15]);
+    assert_eq!(counted(&tables, &every(ALWAYS, cross(Plan::Unit, Plan::Unit), scan(0, 0))), [0, 0, 0, 0, 15]);
+    // A Fold over one of them has a column.
+    assert_eq!(
+        counted(&tables, &fold(Aggregate::Count, 9, ALWAYS, select(ALWAYS, Plan::Unit), Plan::Unit)),
+        [1, 0, 0, 0]
+    );
+    let answer = report(b"", &write_plan(&select(ALWAYS, Plan::Unit)), 0, 4096).expect("a report");
+    assert_eq!((answer.rows, answer.columns), (1, 0));
+    assert_eq!(report(b"", &write_plan(&select(ALWAYS, Plan::Unit)), 0, 4095), Err(16));
+}
+
+#[test]
+fn k12_chains_and_both_sides() {
+    let tables = [sized(4, 6), sized(2, 3)];
+    let chain = anti(0, 10, ALWAYS, semi(1, 20, ALWAYS, select(ALWAYS, scan(0, 0)), scan(1, 20)), scan(1, 10));
+    let chain = select(number_test(1, Less, 4), project(&[1, 0], chain));
+    // Select, Project, Anti, Semi, Select, and the Scans of 6 x 4, 3 x 2 and 3 x 2.
+    assert_eq!(counted(&tables, &chain), [2, 2, 4, 4, 4, 24, 6, 6]);
+    assert_eq!(need_before(&chain, &tables), 4096 + 12 + 12 + 24 + 24 + 24 + 24 + 6 + 6);
+    // A Distinct in between counts its six rows; what is above it counts one again.
+    let broken = project(&[0], distinct(&[1, 0], select(ALWAYS, scan(0, 0))));
+    assert_eq!(counted(&tables, &broken), [1, 12, 4, 24]);
+    let right = select(ALWAYS, project(&[11], scan(1, 10)));
+    let both = semi(0, 11, ALWAYS, project(&[3, 0], select(ALWAYS, scan(0, 0))), right);
+    assert_eq!(counted(&tables, &both), [2, 2, 4, 24, 1, 1, 6]);
+}
+
+#[test]
+fn k12_an_inner_plan_counts_once() {
+    let tables = [sized(2, 5), sized(3, 4)];
+    let inner = select(ALWAYS, project(&[10, 11], select(columns_test(0, Equal, 10), scan(1, 10))));
+    // It is run for each of five left rows.
+    let plan = every(number_test(11, Less, 3), scan(0, 0), inner);
+    assert_eq!(counted(&tables, &plan), [2, 10, 2, 2, 3, 12]);
+    let innermost = every(ALWAYS, scan(1, 30), select(columns_test(0, Equal, 40), scan(0, 40)));
+    let inner = some(ALWAYS, select(ALWAYS, scan(1, 10)), innermost);
+    let plan = fold(Aggregate::Count, 9, ALWAYS, select(ALWAYS, scan(0, 0)), inner);
+    // Fold 5 x 3, Select, Scan; Some, Select, Scan; Every, Scan, Select, Scan.
+    assert_eq!(counted(&tables, &plan), [15, 2, 10, 3, 3, 12, 3, 12, 2, 10]);
+}
+
+#[test]
+fn k12_4096_comes_once() {
+    let mut plan = Plan::Unit;
+    while plan.size() < 64 {
+        plan = select(ALWAYS, plan);
+    }
+    assert_eq!(need(&plan, &[]), 4096);
+    assert_eq!(need_parts(&plan, &[]).len(), 65);
+}
+
+#[test]
+fn k12_needs_of_the_sample_club() {
+    let Input { tables, plan } = club();
+    let (_, passed) = unnest_tree(&plan, &tables);
+    let parts: Vec<Vec<u64>> = passed.iter().map(|plan| counted(&tables, plan)).collect();
+    // Every, Distinct, Scan, Select, Scan; Anti for the Every, without the Select; with one again; Project, Select, Group, Scan.
+    assert_eq!(parts, [vec![1, 4, 4, 2, 8], vec![1, 4, 4, 8], vec![1, 4, 4, 2, 8], vec![1, 2, 8, 8]]);
+    let needs =
+        |count: fn(&Plan, &[Table]) -> u64| -> Vec<u64> { passed.iter().map(|plan| count(plan, &tables)).collect() };
+    assert_eq!(needs(need), [4115, 4113, 4115, 4115]);
+    assert_eq!(needs(need_before), [4124, 4116, 4124, 4124]);
+    let with_project = club_with_project().plan;
+    assert_eq!(counted(&tables, &with_project), [1, 4, 4, 1, 2, 8]);
+    assert_eq!(need_before(&with_project, &tables), 4128);
+}
+
+#[test]
+fn k12_where_16_no_longer_comes_the_next_test_decides() {
+    let club = club();
+    let (set, plan) = (club.set_bytes(), club.plan_bytes());
+    let codes = |out, scratch| report(&set, &plan, out, scratch).map(|report| report.codes);
+    // The report has two cells. The need is 4,115 cells, and was 4,124.
+    for out in [0, 1, 2, 100] {
+        assert_eq!(codes(out, 4114), Err(16));
+    }
+    for scratch in [4115, 4119, 4123, 4124] {
+        assert_eq!(codes(1, scratch), Err(15));
+        assert_eq!(codes(2, scratch), Ok(vec![7, 4]));
+    }
+    // The last plan has four nodes, and there are three steps.
+    let left = unnest(&set, &plan, ROOMY, ROOMY, ROOMY).expect("steps");
+    assert_eq!(left.plan.len(), HEADER + 4 * NODE);
+    assert_eq!(unnest(&set, &plan, ROOMY, ROOMY, 4114), Err(16));
+    for scratch in [4115, 4123, 4124] {
+        assert_eq!(unnest(&set, &plan, HEADER + 4 * NODE - 1, 6, scratch), Err(15));
+        assert_eq!(unnest(&set, &plan, HEADER + 4 * NODE, 5, scratch), Err(15));
+        assert_eq!(unnest(&set, &plan, HEADER + 4 * NODE, 6, scratch), Ok(left.clone()));
+    }
+    // Earlier numbers come as before, and 16 before 15.
+    assert_eq!(report(&set, &plan[..5], 0, 0), Err(6));
+    assert_eq!(report(b"", &plan, 0, 0), Err(11));
+    assert_eq!(codes(0, 0), Err(16));
+}
+
+#[test]
+fn k12_a_stay_note_has_the_same_need() {
+    let mut club = club();
+    club.tables[1].rows = vec![vec![9, BLANK], vec![7, 36], vec![4, 31], vec![7, 33]];
+    let set = club.set_bytes();
+    let left = unnest(&set, &club.plan_bytes(), ROOMY, ROOMY, ROOMY).expect("steps").plan;
+    // Anti 1, Distinct 4, Scan 4, Select 2, Scan 8, where Anti had 4 and Select 8.
+    assert_eq!(need_of(&set, &left), Ok(4115));
+    assert_eq!(stay_note(&set, &left, 0, 4114), Err(16));
+    for scratch in [4115, 4123, 4124] {
+        assert_eq!(stay_note(&set, &left, 0, scratch), Ok(Some(0)));
+        assert_eq!(stay_note(&set, &left, 1, scratch), Ok(None));
+        assert_eq!(stay_note(&set, &left, 64, scratch), Ok(None));
+    }
+    assert_eq!(stay_note(&set, &left, 64, 4114), Err(16));
+    // The note asks for the need of its own plan alone: from the Semi of 29 cells unnesting goes through a plan of 34.
+    let tables = [one_column(&[1, 2, 3, 4]), Table { columns: 5, rows: (1..5).map(|key| vec![key; 5]).collect() }];
+    let plan = semi(0, 1, number_test(2, Less, 3), players(), scan(1, 1));
+    let (set, bytes) = (write_set(&tables), write_plan(&plan));
+    assert_eq!(unnest_need(&set, &bytes), Ok(4096 + 34));
+    assert_eq!(stay_note(&set, &bytes, 0, 4096 + 28), Err(16));
+    assert_eq!(stay_note(&set, &bytes, 0, 4096 + 29), Ok(None));
+}
+
+#[test]
+fn k12_the_largest_needs() {
+    let chain = |child: Plan, over: &dyn Fn(Plan) -> Plan| {
+        let mut plan = child;
+        while plan.size() < 64 {
+            plan = over(plan);
+        }
+        plan
+    };
+    let selects = |child| chain(child, &|plan| select(ALWAYS, plan));
+    let sorts = |child| chain(child, &|plan| sort(false, &[0], plan));
+    // The largest Scan: 63 Selects counted 16,000 cells each and count 16; 63 Sorts count what they counted.
+    let tables = [sized(16, 1000)];
+    let needs = |plan: &Plan, tables: &[Table]| {
+        assert_eq!((plan.size(), refusal(tables, plan)), (64, None));
+        (need_before(plan, tables), need(plan, tables))
+    };
+    assert_eq!(needs(&selects(scan(0, 0)), &tables), (1_028_096, 21_104));
+    assert_eq!(needs(&sorts(scan(0, 0)), &tables), (1_028_096, 1_028_096));
+    // The largest rows that there may be, 512 x 8 of 32 columns, counted by 62 of 64 nodes: the largest need of all plans.
+    let tables = [sized(16, 512), sized(16, 8)];
+    let product = || cross(scan(0, 0), scan(1, 16));
+    assert_eq!(needs(&selects(product()), &tables), (8_138_880, 145_440));
+    assert_eq!(needs(&sorts(product()), &tables), (8_138_880, 8_138_880));
+}
+
+#[test]
+fn k12_rules_fit_and_stay_over_chains() {
+    let named = edges();
+    let edge = |name: &str| &named.iter().find(|(own, _)| own == name).expect("an edge").1;
+    let rules = |name: &str| -> Vec<u8> {
+        let Input { tables, plan } = edge(name);
+        unnest_tree(plan, tables).0.into_iter().map(|(rule, _)| rule).collect()
+    };
+    assert_eq!(rules("U3 over chains"), [3]);
+    assert_eq!(rules("U4 over chains"), [7, 4]);
+    assert_eq!(rules("U6 over chains"), [6]);
+    assert_eq!(rules("U8 over chains"), [8]);
+    assert_eq!(rules("U1 to U3 over chains"), [1, 7, 3]);
+    assert_eq!(rules("U2 to U4 over chains"), [2, 7, 4]);
+    assert_eq!(rules("U5 and U6 over chains"), [5, 6]);
+    for name in ["a Semi that stays over chains", "an Anti that stays over chains", "a Pair that stays over chains"] {
+        let Input { tables, plan } = edge(name);
+        // The values are 1, 3, 5 and 4.
+        assert_eq!(stay_position(plan, 0, tables), Some(2), "{name}");
+    }
+}
+
+/// How many nodes of one sort a plan of at most 64 may have over another plan, for the listing program to have the scratch for it.
+fn most_over(tables: &[Table], child: Plan, over: fn(Plan) -> Plan, count: fn(&Plan, &[Table]) -> u64) -> usize {
+    let mut plan = child;
+    let below = plan.size();
+    loop {
+        let longer = over(plan.clone());
+        if longer.size() > 64 || count(&longer, tables) > SCRATCH as u64 {
+            return plan.size() - below;
+        }
+        plan = longer;
+    }
+}
+
+#[test]
+fn k12_plans_that_the_listing_program_has_scratch_for() {
+    // The largest table, and the largest report: 4,096 rows of 32 columns.
+    let (table, wide) = ([sized(16, 1000)], [sized(16, 64)]);
+    let product = || cross(scan(0, 0), scan(0, 16));
+    let selects: fn(Plan) -> Plan = |plan| select(ALWAYS, plan);
+    let sorts: fn(Plan) -> Plan = |plan| sort(false, &[0], plan);
+    assert_eq!(SCRATCH, 262_144);
+    assert_eq!(most_over(&table, scan(0, 0), selects, need_before), 15);
+    assert_eq!(most_over(&table, scan(0, 0), selects, need), 63);
+    assert_eq!(most_over(&wide, product(), selects, need_before), 0);
+    assert_eq!(most_over(&wide, product(), selects, need), 61);
+    for count in [need_before, need] {
+        assert_eq!(most_over(&table, scan(0, 0), sorts, count), 15);
+        assert_eq!(most_over(&wide, product(), sorts, count), 0);
+    }
+    // 15 and 16 Selects before; 63 and 61 now; the largest report alone, with a Select before, and with a Sort.
+    let chain = |count: usize, plan: Plan| (0..count).fold(plan, |plan, _| selects(plan));
+    assert_eq!(need_before(&chain(15, scan(0, 0)), &table), 260_096);
+    assert_eq!(need_before(&chain(16, scan(0, 0)), &table), 276_096);
+    assert_eq!(need(&chain(63, scan(0, 0)), &table), 21_104);
+    assert_eq!(need(&chain(61, product()), &wide), 139_168);
+    assert_eq!(need(&product(), &wide), 137_216);
+    assert_eq!(need_before(&selects(product()), &wide), 268_288);
+    assert_eq!(need(&sorts(product()), &wide), 268_288);
+    let text = |name: &str| large_runs().iter().find(|run| run.name == name).expect("a run").text();
+    assert_eq!(text("scratch below the need"), "refused 16\n");
+    // 9 of 64 left rows have a 3 in column 0. The rows without a 6 in the first five columns are number 2 and 5 of every seven.
+    assert!(text("a Select over the largest report").starts_with("steps 0\nrows 3520 columns 32\n"));
+    assert!(text("63 Selects over the largest table").starts_with("steps 0\nrows 286 columns 16\n2 5 1 4 0 "));
 }
 
 #[test]
@@ -1713,11 +2053,11 @@ fn the_largest_need_may_be_that_of_a_plan_in_between() {
     let (steps, passed) = unnest_tree(&plan, &tables);
     assert_eq!(steps, [(7, 0), (3, 0)]);
     let needs: Vec<u64> = passed.iter().map(|plan| need(plan, &tables) - 4096).collect();
-    // Semi 4, Distinct 4, Scan 4, Scan 20; a Select of 20 more; Project 4, Select 8, Group 8, Scan 20.
-    assert_eq!(needs, [32, 52, 40]);
+    // Semi 1, Distinct 4, Scan 4, Scan 20; a Select of 5 more; Project 1, Select 2, Group 8, Scan 20.
+    assert_eq!(needs, [29, 34, 31]);
     let (set, plan) = (write_set(&tables), write_plan(&plan));
-    assert_eq!(unnest(&set, &plan, 0, 0, 4096 + 51), Err(16));
-    assert_eq!(unnest(&set, &plan, 0, 0, 4096 + 52), Err(15));
+    assert_eq!(unnest(&set, &plan, 0, 0, 4096 + 33), Err(16));
+    assert_eq!(unnest(&set, &plan, 0, 0, 4096 + 34), Err(15));
 }
 
 #[test]

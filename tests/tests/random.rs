@@ -3,9 +3,9 @@
 
 use second::between::Met;
 use second::calls::{read, report_of, unnest_tree};
-use second::check::columns;
+use second::check::{bound, columns, need, need_before, passes_rows_on};
 use second::downward::{decided_by_equal_rows, sorts_with_equal_rows};
-use second::generate::{accepted, common_beginning, downward, steps, totals, unequal, with_between, Input};
+use second::generate::{accepted, common_beginning, downward, in_place, steps, totals, unequal, with_between, Input};
 use second::nodes::write_plan;
 use second::plan::Comparison::NotEqual;
 use second::plan::{Form, Plan, Test};
@@ -30,15 +30,17 @@ fn unnesting_keeps_the_report() {
     let mut unequal_steps = [0usize; 9];
     let mut kinds = [0usize; 15];
     let mut longest = 0;
-    for seed in 0..PLANS + 1600 {
+    for seed in 0..PLANS + 2000 {
         let mut random = Random::new(seed);
-        // After the plans of every sort, sums over blanks, comparisons with blanks, downward lists and Projects in between in turn.
-        let input = match seed.checked_sub(PLANS).map(|further| further % 4) {
+        // After the plans of every sort, sums over blanks, comparisons with blanks, downward lists, Projects in between and nodes that pass
+        // rows on in turn.
+        let input = match seed.checked_sub(PLANS).map(|further| further % 5) {
             None => accepted(&mut random),
             Some(0) => totals(&mut random),
             Some(1) => unequal(&mut random),
             Some(2) => downward(&mut random),
-            Some(_) => with_between(&mut random),
+            Some(3) => with_between(&mut random),
+            Some(_) => in_place(&mut random),
         };
         let (tables, tree) = read(&input.set_bytes(), &input.plan_bytes()).expect("an accepted plan");
         assert_eq!((&tables, &tree), (&input.tables, &input.plan));
@@ -54,6 +56,7 @@ fn unnesting_keeps_the_report() {
         assert_eq!(report_of(&tree, &tables), report_of(last, &tables), "seed {seed}");
         assert!(steps.len() + weight(last) <= weight(&tree), "seed {seed}");
         assert!(first_fit(last, &tables).is_none());
+        assert!(passed.iter().all(|plan| need(plan, &tables) <= need_before(plan, &tables)), "seed {seed}");
         assert!(read(&input.set_bytes(), &write_plan(last)).is_ok());
     }
     println!("nodes by kind {kinds:?}");
@@ -129,6 +132,30 @@ fn k3_the_order_of_equal_rows_decides_reports_steps_and_notes() {
     }
     println!("downward Sorts with equal rows {sorts}; reports, steps and notes that their order decides {counts:?}");
     assert!(sorts > 700 && counts.iter().all(|&count| count > 100), "{sorts}, {counts:?}");
+}
+
+#[test]
+fn k12_the_need_is_at_most_the_one_before() {
+    let (mut smaller, mut both_sides) = ([0usize; 2], [0usize; 2]);
+    for seed in 0..4_000 {
+        let mut random = Random::new(5_000_000 + seed);
+        let kind = usize::from(seed >= 2_000);
+        let Input { tables, plan } = if kind == 0 { accepted(&mut random) } else { in_place(&mut random) };
+        let (now, before) = (need(&plan, &tables), need_before(&plan, &tables));
+        assert!(now <= before, "seed {seed}");
+        // Each node that passes rows on saves all rows of its bound but one.
+        let nodes = plan.nodes();
+        let saved = |node: &&Plan| bound(node, &tables).saturating_sub(1) * columns(node, &tables).len() as u64;
+        let all_saved: u64 = nodes.iter().filter(|node| passes_rows_on(node)).map(saved).sum();
+        assert_eq!(before - now, all_saved, "seed {seed}");
+        smaller[kind] += usize::from(now < before);
+        let passes_several = |child: &&Plan| passes_rows_on(child) && bound(child, &tables) > 1;
+        let both = |node: &&&Plan| node.children().len() == 2 && node.children().iter().all(passes_several);
+        both_sides[kind] += nodes.iter().filter(both).count();
+    }
+    println!("needs below those before K12 {smaller:?} of 2,000 each; nodes over two that pass several rows on {both_sides:?}");
+    assert!(smaller.iter().all(|&count| count > 1_000), "{smaller:?}");
+    assert!(both_sides[0] > 50 && both_sides[1] > 500, "{both_sides:?}");
 }
 
 /// So many plans that the steps of one input lead to are enough.

@@ -14,6 +14,9 @@ use std::{env, fs, process};
 const OUTPUT: usize = 4096;
 const SCRATCH: usize = 16384;
 
+/// How many random accepted inputs there are.
+const RANDOM: usize = 580;
+
 fn main() {
     let names: Vec<String> = env::args().skip(1).collect();
     let [case_file, expected_file] = &names[..] else {
@@ -49,7 +52,8 @@ fn inputs() -> Vec<(Vec<u8>, Vec<u8>)> {
     let mut random = Random::new(2);
     let mut all: Vec<(Vec<u8>, Vec<u8>)> =
         edges().iter().map(|(_, input)| (input.set_bytes(), input.plan_bytes())).collect();
-    while all.len() < 700 {
+    let with_random = all.len() + RANDOM;
+    while all.len() < with_random {
         let input = accepted(&mut random);
         let (set, plan) = (input.set_bytes(), input.plan_bytes());
         if set.len() <= 2000 {
