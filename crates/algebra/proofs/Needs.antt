@@ -43,6 +43,10 @@ pub need-no-more : (T : Tables) (p : Plan) → need T p ≤ needBefore T p
 unfolding need
 need-no-more T p = omega (arith, total-most (share T) (extent T) (share-most T) (subtrees p))
 
+-- a list in view names each column once at most
+pub list-narrow : (ids cs : List ℕ) → listInView ids cs ≡ true → length ids ≤ length cs
+list-narrow ids cs h = let (u, w) = and-eq-true-iff (unique ids) (within ids cs) .0 h in unique-length ids cs u w
+
 module _ (T : Tables) where
   -- ---- a tree's part is its node's share and its children's parts
   pub part-one : (u : Unary) (p : Plan) → part T (one u p) ≡ share T (one u p) + part T p
@@ -54,10 +58,6 @@ module _ (T : Tables) where
   part-two b e f = omega (arith, total-append (share T) (subtrees e) (subtrees f))
 
   -- ---- a tree's rows lie in its part
-  -- a list in view names each column once at most
-  pub list-narrow : (ids cs : List ℕ) → listInView ids cs ≡ true → length ids ≤ length cs
-  list-narrow ids cs h = let (u, w) = and-eq-true-iff (unique ids) (within ids cs) .0 h in unique-length ids cs u w
-
   pub rows-within : (scope : List ℕ) (p : Plan) → inView T scope p ≡ true → extent T p ≤ part T p
   unfolding bound columns subtrees
   rows-within scope (leaf x) v = omega arith

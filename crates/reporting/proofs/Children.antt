@@ -82,7 +82,7 @@ module _ (T : Tables) where
 
   slim-one : (u : Unary) (p : Plan) → Sound T (one u p) → unaryRegion u ≡ false → length (unaryColumns u (columns T p)) ≤ width T p
   slim-one (select t) p s e = omega arith
-  slim-one (project ids) p s e = list-narrow T ids (columns T p) (in-view-one T (s .scope) (project ids) p (s .inViewAll) .0)
+  slim-one (project ids) p s e = list-narrow ids (columns T p) (in-view-one T (s .scope) (project ids) p (s .inViewAll) .0)
   slim-one (distinct ids) p s e = absurd (true≢false e)
   slim-one (group g n l r c t) p s e = absurd (true≢false e)
   slim-one (sort d ids) p s e = absurd (true≢false e)
