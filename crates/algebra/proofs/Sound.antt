@@ -44,7 +44,7 @@ flip-flip true true false = refl
 flip-flip true false v = refl
 flip-flip false m v = refl
 
-holds-turned : (b : Bool) (t : Test) (f : Env) → holds (turned b t) f ≡ flip b (holds t f)
+pub holds-turned : (b : Bool) (t : Test) (f : Env) → holds (turned b t) f ≡ flip b (holds t f)
 holds-turned b (test m t) f = flip-flip b m (truth t f)
 
 quantify-filter : (m : Bool) (p q : Row → Bool) (rs : List Row) → quantify m p (filter q rs) ≡ flip m (any (λ r. q r && flip m (p r)) rs)

@@ -1,6 +1,6 @@
 -- What one left row gives, by the node's kind. Assumes nothing.
-use mathlib.Core.Path.{_≡_, refl, sym, ap, _∙_, subst}
-use mathlib.Core.Bool.{Bool, true, false, not, cond}
+use mathlib.Core.Path.{_≡_, refl, sym, ap, _∙_, subst, fun-ext}
+use mathlib.Core.Bool.{Bool, true, false, not, cond, _&&_}
 use mathlib.Core.List.{List, [], _∷_, _++_}
 use Prim.Native.Nat.{ℕ, zero, suc, _+_, _*_, _-_, _≤_, _<_, max}
 use native.Mathlib.Omega.{arith}
@@ -8,12 +8,14 @@ use lib.ListN.{length, take, drop, length-append, replicate}
 use borrow.Rule.Slice.PartMut.{putMid, take-put}
 use Rattle.algebra.specs.Lists.{flip, any}
 use Rattle.algebra.proofs.Lists.{all-any}
-use Rattle.algebra.specs.Plans.{Row, Env, bind, holds, emit}
+use Rattle.algebra.proofs.Sound.{holds-turned}
+use Rattle.algebra.specs.Plans.{Row, Env, bind, test, holds, emit}
 use Rattle.reading.specs.declared.plan.Node.{Node}
-use Rattle.reading.specs.Tree.{operatorBy, operatorOf, nodeTest}
+use Rattle.reading.specs.Tree.{operatorBy, operatorOf, formOf, nodeTest}
 use Rattle.reading.specs.Nodes.{arity}
 use Rattle.reading.proofs.Operators.{by-kind, kind-above}
 use Rattle.reporting.specs.Rows.{chunk, rowAt, rowsFrom, Gives, envOf, passing, aggregateIn, emitted}
+use Rattle.reporting.specs.Keys.{hasKeys, keyComparison, keysHold}
 use Rattle.reporting.specs.Written.{Written, Emitted, joinedRows, JoinGiven, EachGiven, GatherWritten, EmitGiven}
 use Rattle.reporting.specs.Evaluation.{StepRoom}
 use Rattle.reporting.proofs.Chunks.{gives-one, gives-none}
@@ -92,27 +94,29 @@ by-keeping P a b c d =
 
 -- whether it keeps the row
 module _ (node : Node) (ds : List ℕ) (env : Env) (rs : List Row) (b : Bool) (l : Row) where
-  -- some right row passes, or does not
+  -- some right row meets the keys and the test under a not-mark
   abbrev Found : Bool → ℕ → Type 0
-  Found mark k = b ≡ any (λ q. flip mark (passing (operatorBy k node) (bind ds q env))) rs
+  Found negated k = b ≡ any (λ q. keysHold k node (bind ds q env) && holds (test negated (formOf (node .test))) (bind ds q env)) rs
 
   abbrev Keeps : Bool → ℕ → Type 0
   Keeps mark k = emitted (operatorBy k node) ds l env rs ≡ cond (flip mark b) (l ∷ []) []
 
-  pub keeps-every : node .kind ≡ 9 → Found true (node .kind) → Keeps true (node .kind)
-  unfolding operatorBy emitted emit passing
+  -- every row meets a test where none meets it under the other not-mark
+  pub keeps-every : node .kind ≡ 9 → Found (not (node .negated)) (node .kind) → Keeps true (node .kind)
+  unfolding operatorBy emitted emit hasKeys keysHold
   keeps-every e =
-      subst (λ k. Found true k → Keeps true k) (sym e)
-      (λ h. ap (λ x. cond x (l ∷ []) []) (all-any (λ q. holds (nodeTest node) (bind ds q env)) rs ∙ ap not (sym h)))
+      let other = fun-ext (λ q. holds-turned true (nodeTest node) (bind ds q env)) in
+      subst (λ k. Found (not (node .negated)) k → Keeps true k) (sym e)
+      (λ h. ap (λ x. cond x (l ∷ []) []) (all-any (λ q. holds (nodeTest node) (bind ds q env)) rs ∙ ap not (sym (h ∙ ap (λ (p : Row → Bool). any p rs) other))))
 
-  pub keeps-anti : node .kind ≡ 7 → Found false (node .kind) → Keeps true (node .kind)
-  unfolding operatorBy emitted emit passing
-  keeps-anti e = subst (λ k. Found false k → Keeps true k) (sym e) (λ h. ap (λ x. cond (not x) (l ∷ []) []) (sym h))
+  pub keeps-anti : node .kind ≡ 7 → Found (node .negated) (node .kind) → Keeps true (node .kind)
+  unfolding operatorBy emitted emit hasKeys keyComparison keysHold
+  keeps-anti e = subst (λ k. Found (node .negated) k → Keeps true k) (sym e) (λ h. ap (λ x. cond (not x) (l ∷ []) []) (sym h))
 
-  pub keeps-some : 6 ≤ node .kind → node .kind ≤ 9 → (node .kind ≡ 9 → ⊥) → (node .kind ≡ 7 → ⊥) → Found false (node .kind) → Keeps false (node .kind)
-  unfolding operatorBy emitted emit passing
+  pub keeps-some : 6 ≤ node .kind → node .kind ≤ 9 → (node .kind ≡ 9 → ⊥) → (node .kind ≡ 7 → ⊥) → Found (node .negated) (node .kind) → Keeps false (node .kind)
+  unfolding operatorBy emitted emit hasKeys keyComparison keysHold
   keeps-some =
-      by-keeping (λ k. (k ≡ 9 → ⊥) → (k ≡ 7 → ⊥) → Found false k → Keeps false k)
+      by-keeping (λ k. (k ≡ 9 → ⊥) → (k ≡ 7 → ⊥) → Found (node .negated) k → Keeps false k)
       (λ x y h. ap (λ z. cond z (l ∷ []) []) (sym h))
       (λ x y h. absurd (y refl))
       (λ x y h. ap (λ z. cond z (l ∷ []) []) (sym h))

@@ -5,13 +5,13 @@ use mathlib.Core.Path.{_≡_}
 use mathlib.Core.List.{List, [], map}
 use Rattle.algebra.specs.Lists.{if_then_else_, filter, all, flatMap}
 use lib.ListN.{length, take, drop}
-use Rattle.algebra.specs.Plans.{Row, Env, Tables, Plan, leafColumns, leafRows, columns, bind, cut, eval}
+use Rattle.algebra.specs.Plans.{Row, Env, Test, Tables, Plan, leafColumns, leafRows, columns, bind, holds, cut, eval}
 use Rattle.algebra.specs.Places.{Operator, leafNode, unaryNode, binaryNode, subtrees}
 use Rattle.algebra.specs.Names.{introduced}
 use Rattle.algebra.specs.Refusals.{byte, inView, narrow, low, width, bound, hasRegion, part, leafBound}
 use Rattle.reading.specs.TableSet.{columnsOf, rowsOf, tableRows, tablesOf}
 use Rattle.reading.specs.Tree.{planAt}
-use Rattle.reporting.specs.Rows.{rowAt, rowsFrom, envOf, Gives, passing, acted, actedColumns, emitted, emittedColumns, emittedMost}
+use Rattle.reporting.specs.Rows.{rowAt, rowsFrom, envOf, Gives, acted, actedColumns, emitted, emittedColumns, emittedMost}
 use Rattle.reporting.specs.Written.{Emitted}
 
 -- ---- the tree at a place of a plan, over the tables of a set
@@ -110,9 +110,9 @@ pub record UnaryRoom (op : Operator) (cs : List ℕ) (own m cells : ℕ) : Type 
 abbrev pub UnaryGiven : Operator → List ℕ → List ℕ → ℕ → ℕ → List ℕ → ℕ → List ℕ → Type 0
 UnaryGiven op cs words own m entry r exit = Gives (acted op cs (envOf words) (rowsFrom own m (length cs) entry)) (length (actedColumns op cs)) m r exit
 
--- those of the rows that pass a Select
-abbrev pub SelectGiven : Operator → List ℕ → List ℕ → ℕ → ℕ → List ℕ → ℕ → List ℕ → Type 0
-SelectGiven op cs words own m entry r exit = Gives (filter (λ q. passing op (bind cs q (envOf words))) (rowsFrom own m (length cs) entry)) (length cs) m r exit
+-- those of the rows that meet a test
+abbrev pub SelectGiven : Test → List ℕ → List ℕ → ℕ → ℕ → List ℕ → ℕ → List ℕ → Type 0
+SelectGiven t cs words own m entry r exit = Gives (filter (λ q. holds t (bind cs q (envOf words))) (rowsFrom own m (length cs) entry)) (length cs) m r exit
 
 -- each row cut to a list of ids
 abbrev pub CutsGiven : List ℕ → List ℕ → List ℕ → ℕ → ℕ → List ℕ → ℕ → List ℕ → Type 0

@@ -28,7 +28,8 @@ pub(crate) fn act(
 {
     let kind = node.kind;
     if kind == 2 {
-        return select(node, cells, own, m, ids, env);
+        let form = node.test;
+        return select(node.negated, form, cells, own, m, ids, env);
     }
     if kind == 13 {
         return group(node, cells, own, m, ids, env);

@@ -74,19 +74,19 @@ fn each_row(
     1
 }
 
-// Whether a Semi, an Anti, a Some or an Every keeps its left row.
+// Whether a Semi, an Anti, a Some or an Every keeps its left row; an Every does where no right row meets its test under the other not-mark.
 fn keeps(node: Node, rows: &[u32], k: usize, jds: &[u8], env: &[u32]) -> bool
     requires { ⌜ (k * length (now jds) ≤ length (now rows)) × (length (now env) ≡ 256) × (6 ≤ node .kind) × (node .kind ≤ 9) ⌝ }
     ensures { λ r. ⌜ KeptBy (operatorOf node) (now (jds .entry)) (now (env .entry)) k (now (rows .entry)) r ⌝ }
 {
     let kind = node.kind;
     if kind == 9 {
-        return !any_row(node, true, rows, k, jds, env);
+        return !any_row(node, !node.negated, rows, k, jds, env);
     }
     if kind == 7 {
-        return !any_row(node, false, rows, k, jds, env);
+        return !any_row(node, node.negated, rows, k, jds, env);
     }
-    any_row(node, false, rows, k, jds, env)
+    any_row(node, node.negated, rows, k, jds, env)
 }
 
 // Writes the row and the node's aggregate over the right rows.

@@ -11,7 +11,9 @@ ghost use Rattle.reading.specs.Tree.{aggregateOf, operatorOf};
 ghost use Rattle.reporting.specs.Rows.{chunk, envOf, aggregateIn, gathered};
 ghost use Rattle.reporting.specs.Tallies.{Tallies, Bounded, lesser, added, tallied, rowAdded};
 use crate::env::column;
-use crate::test::row_passes;
+use crate::test::has_test;
+use crate::test::keys_hold;
+use crate::test::test_holds;
 use reading::plan::Node;
 
 // What the measured cells of the rows that passed so far come to: how many rows; of those with no blank how many, their sum, the least
@@ -176,8 +178,14 @@ fn gather_row(node: Node, code: u8, tally: Tally, ids: &[u8], row: &[u32], env: 
     requires { ⌜ (tally .rows < 4096) × Bounded tally ⌝ }
     ensures { λ r. ⌜ (r ≡ rowAdded (operatorOf node) (bind (now (ids .entry)) (now (row .entry)) (envOf (now (env .entry)))) tally) × Bounded r ⌝ }
 {
-    if !row_passes(node, ids, row, env) {
-        return tally;
+    if has_test(node.kind) {
+        if !keys_hold(node, ids, row, env) {
+            return tally;
+        }
+        let form = node.test;
+        if !test_holds(node.negated, form, ids, row, env) {
+            return tally;
+        }
     }
     let cell = measured_cell(code, node.column, ids, row, env);
     tally.add(cell)

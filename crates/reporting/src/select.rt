@@ -3,17 +3,19 @@
 ghost use mathlib.Core.Path.{_≡_};
 ghost use Prim.Native.Nat.{_+_, _*_, _≤_};
 ghost use lib.ListN.{length};
-ghost use Rattle.reading.specs.Tree.{operatorOf};
+ghost use Rattle.algebra.specs.Plans.{test};
+ghost use Rattle.reading.specs.Tree.{formOf};
 ghost use Rattle.reporting.specs.Written.{Apart, CutWritten, CutRoom, CutMoved};
 ghost use Rattle.reporting.specs.Evaluation.{SelectGiven, CutsRoom, CutsGiven};
 use crate::env::column;
 use crate::rows::copy_row;
-use crate::test::row_passes;
-use reading::plan::Node;
+use crate::test::test_holds;
+use reading::plan::Test;
 
-// Keeps those of m rows at `own` that pass the node, at the front.
+// Keeps those of m rows at `own` that meet a test under its not-mark, at the front.
 pub(crate) fn select(
-    node: Node,
+    negated: bool,
+    form: Test,
     cells: &mut [u32],
     own: usize,
     m: usize,
@@ -21,7 +23,7 @@ pub(crate) fn select(
     env: &[u32],
 ) -> usize
     requires { ⌜ (length (now env) ≡ 256) × (own + m * length (now ids) ≤ length (now cells)) ⌝ }
-    ensures { λ r. ⌜ SelectGiven (operatorOf node) (now (ids .entry)) (now (env .entry)) own m (now (cells .entry)) r (now (cells .exit)) ⌝ }
+    ensures { λ r. ⌜ SelectGiven (test negated (formOf form)) (now (ids .entry)) (now (env .entry)) own m (now (cells .entry)) r (now (cells .exit)) ⌝ }
 {
     let w = ids.len();
     let mut i = 0;
@@ -29,7 +31,7 @@ pub(crate) fn select(
     let mut src = own;
     let mut dst = 0;
     while i < m {
-        if row_passes(node, ids, &cells[src..src + w], env) {
+        if test_holds(negated, form, ids, &cells[src..src + w], env) {
             copy_row(cells, src, dst, w);
             out += 1;
             dst += w;

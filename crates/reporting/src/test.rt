@@ -2,11 +2,11 @@
 ghost use mathlib.Core.Path.{_≡_};
 ghost use Prim.Native.Nat.{_*_, _≤_};
 ghost use lib.ListN.{length};
-ghost use Rattle.algebra.specs.Lists.{flip, any};
+ghost use Rattle.algebra.specs.Lists.{any};
 ghost use Rattle.algebra.specs.Plans.{bind, test, holds};
-ghost use Rattle.reading.specs.Tree.{comparisonOf, formOf, operatorOf};
-ghost use Rattle.reporting.specs.Rows.{chunk, envOf, passing};
-ghost use Rattle.reporting.specs.Keys.{hasTest, hasKeys, keyComparison, keysHold};
+ghost use Rattle.reading.specs.Tree.{comparisonOf, formOf};
+ghost use Rattle.reporting.specs.Rows.{chunk, envOf};
+ghost use Rattle.reporting.specs.Keys.{hasTest, hasKeys, keyComparison, keysHold, met};
 use crate::cells::compare;
 use crate::env::column;
 use reading::plan::Node;
@@ -40,7 +40,7 @@ pub(crate) fn test_holds(negated: bool, form: Test, ids: &[u8], row: &[u32], env
 }
 
 // Whether a kind has a test.
-fn has_test(kind: u8) -> bool
+pub(crate) fn has_test(kind: u8) -> bool
     ensures { λ r. ⌜ r ≡ hasTest kind ⌝ }
 {
     if kind == 2 {
@@ -82,7 +82,7 @@ fn key_comparison(kind: u8, comparison: u8) -> u8
 }
 
 // Whether the keys of a row compare as the node says; a kind without keys asks nothing.
-fn keys_hold(node: Node, ids: &[u8], row: &[u32], env: &[u32]) -> bool
+pub(crate) fn keys_hold(node: Node, ids: &[u8], row: &[u32], env: &[u32]) -> bool
     requires { ⌜ (length (now ids) ≡ length (now row)) × (length (now env) ≡ 256) ⌝ }
     ensures { λ r. ⌜ r ≡ keysHold (node .kind) node (bind (now (ids .entry)) (now (row .entry)) (envOf (now (env .entry)))) ⌝ }
 {
@@ -95,41 +95,28 @@ fn keys_hold(node: Node, ids: &[u8], row: &[u32], env: &[u32]) -> bool
     compare(key_comparison(kind, node.comparison), a, b)
 }
 
-// Whether a row passes a node: its test, and the comparison of keys of a Semi, an Anti, a Pair and a Group.
-pub(crate) fn row_passes(node: Node, ids: &[u8], row: &[u32], env: &[u32]) -> bool
-    requires { ⌜ (length (now ids) ≡ length (now row)) × (length (now env) ≡ 256) ⌝ }
-    ensures { λ r. ⌜ r ≡ passing (operatorOf node) (bind (now (ids .entry)) (now (row .entry)) (envOf (now (env .entry)))) ⌝ }
-{
-    let kind = node.kind;
-    if !has_test(kind) {
-        return true;
-    }
-    if !keys_hold(node, ids, row, env) {
-        return false;
-    }
-    let form = node.test;
-    test_holds(node.negated, form, ids, row, env)
-}
-
-// Whether some of k rows passes the node; with the mark, whether some does not. It stops at the first.
+// Whether some of k rows meets the node's keys, and its test under this not-mark. It stops at the first.
 pub(crate) fn any_row(
     node: Node,
-    mark: bool,
+    negated: bool,
     rows: &[u32],
     k: usize,
     ids: &[u8],
     env: &[u32],
 ) -> bool
     requires { ⌜ (k * length (now ids) ≤ length (now rows)) × (length (now env) ≡ 256) ⌝ }
-    ensures { λ r. ⌜ r ≡ any (λ q. flip mark (passing (operatorOf node) (bind (now (ids .entry)) q (envOf (now (env .entry))))))
+    ensures { λ r. ⌜ r ≡ any (λ q. met node negated (bind (now (ids .entry)) q (envOf (now (env .entry)))))
         (chunk k (length (now (ids .entry))) (now (rows .entry))) ⌝ }
 {
     let w = ids.len();
+    let form = node.test;
     let mut i = 0;
     let mut at = 0;
     while i < k {
-        if row_passes(node, ids, &rows[at..at + w], env) != mark {
-            return true;
+        if keys_hold(node, ids, &rows[at..at + w], env) {
+            if test_holds(negated, form, ids, &rows[at..at + w], env) {
+                return true;
+            }
         }
         i += 1;
         at += w;

@@ -12,7 +12,7 @@ any-row-requires c κs = search needs
 
 -- src/emit.rt:84:9
 returns : tie.Need-returns
-returns c = let a = c .before .before .before .before .before .args in λ l. keeps-every (a .node) (a .jds .now) (envOf (a .env .now)) (chunk (a .k) (length (a .jds .now)) (a .rows .now)) (c .any-row .result) l (c .before .if1 .taken) (c .any-row .ensures)
+returns c = let a = c .before .before .before .before .before .before .args in λ l. keeps-every (a .node) (a .jds .now) (envOf (a .env .now)) (chunk (a .k) (length (a .jds .now)) (a .rows .now)) (c .any-row .result) l (c .before .before .if1 .taken) (c .any-row .ensures)
 
 -- src/emit.rt:87:17
 any-row-requires-2 : tie.Need-any-row-requires-2

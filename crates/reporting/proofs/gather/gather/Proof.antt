@@ -38,40 +38,40 @@ few c =
     let a = c .before .before .before .before .before .before .args in
     tallies-few (operatorOf (a .node)) (a .ids .now) (envOf (a .env .now)) (length (a .ids .now)) (c .loop .i) (a .rows .now) (c .loop .tally) (c .loop .inv .2)
 
--- src/gather.rt:192:9
+-- src/gather.rt:200:9
 aggregate-code-requires : tie.Need-aggregate-code-requires Inv-loop μ-loop
 aggregate-code-requires c κs = tt
 
--- src/gather.rt:193:9
+-- src/gather.rt:201:9
 none-requires : tie.Need-none-requires Inv-loop μ-loop
 none-requires c κs = tt
 
--- src/gather.rt:196:5
+-- src/gather.rt:204:5
 loop-holds : tie.Need-loop-holds Inv-loop μ-loop
 unfolding measured chunk
 loop-holds c = (omega arith, sym (zero-mul (length (c .before .before .before .before .before .args .ids .now))), c .none .ensures .0, c .none .ensures .1)
 
--- src/gather.rt:197:62
+-- src/gather.rt:205:62
 add-gather-row : tie.Need-add-gather-row Inv-loop μ-loop
 add-gather-row c = omega (arith, in-row c)
 
--- src/gather.rt:197:52
+-- src/gather.rt:205:52
 mul-gather-row : tie.Need-mul-gather-row Inv-loop μ-loop
 mul-gather-row c = omega (arith, in-row c)
 
--- src/gather.rt:197:52
+-- src/gather.rt:205:52
 sub-gather-row : tie.Need-sub-gather-row Inv-loop μ-loop
 sub-gather-row c = omega arith
 
--- src/gather.rt:197:52
+-- src/gather.rt:205:52
 part-gather-row-start : tie.Need-part-gather-row-start Inv-loop μ-loop
 part-gather-row-start c = omega (arith, in-row c)
 
--- src/gather.rt:197:52
+-- src/gather.rt:205:52
 part-gather-row-end : tie.Need-part-gather-row-end Inv-loop μ-loop
 part-gather-row-end c = omega (arith, in-row c)
 
--- src/gather.rt:197:9
+-- src/gather.rt:205:9
 gather-row-requires : tie.Need-gather-row-requires Inv-loop μ-loop
 gather-row-requires c κs =
     let a = c .before .before .before .before .before .before .before .before .args in
@@ -83,19 +83,19 @@ gather-row-requires c κs =
       ),
     )
 
--- src/gather.rt:198:9
+-- src/gather.rt:206:9
 add-i : tie.Need-add-i Inv-loop μ-loop
 add-i c = omega arith
 
--- src/gather.rt:199:9
+-- src/gather.rt:207:9
 add-at : tie.Need-add-at Inv-loop μ-loop
 add-at c = omega (arith, in-row (c .before .before))
 
--- src/gather.rt:196:5
+-- src/gather.rt:204:5
 loop-less : tie.Need-loop-less Inv-loop μ-loop
 loop-less c = omega arith
 
--- src/gather.rt:196:5
+-- src/gather.rt:204:5
 loop-again : tie.Need-loop-again Inv-loop μ-loop
 loop-again c =
     let a = c .before .before .before .before .before .before .before .before .before .args in
@@ -110,11 +110,11 @@ loop-again c =
       c .gather-row .ensures .1,
     )
 
--- src/gather.rt:201:5
+-- src/gather.rt:209:5
 result-requires : tie.Need-result-requires Inv-loop μ-loop
 result-requires c κs = (omega (arith, few (c .before)), c .before .loop .inv .3)
 
--- src/gather.rt:187:1
+-- src/gather.rt:195:1
 returns : tie.Need-returns Inv-loop μ-loop
 returns c =
     let a = c .before .before .before .before .before .before .before .before .args in

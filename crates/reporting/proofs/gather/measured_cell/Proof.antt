@@ -12,18 +12,18 @@ use Rattle.reporting.proofs.gather.measured_cell.Reads as reads
 use Rattle.reporting.proofs.gather.measured_cell.Lts as lts
 use Rattle.reporting.proofs.env.column.Reads as column-reads
 
--- src/gather.rt:167:9
+-- src/gather.rt:169:9
 returns : tie.Need-returns
 returns c =
     let a = c .before .before .before .before .args in
     let env : Env = bind (a .ids .now) (a .row .now) (envOf (a .env .now)) in
     sym (ap (λ (k : ℕ). measure (aggregateOf k (a .id)) env) (c .if1 .taken))
 
--- src/gather.rt:169:5
+-- src/gather.rt:171:5
 column-requires : tie.Need-column-requires
 column-requires c κs = search needs
 
--- src/gather.rt:162:1
+-- src/gather.rt:164:1
 returns-2 : tie.Need-returns-2
 returns-2 c =
     let a = c .before .before .before .before .before .args in

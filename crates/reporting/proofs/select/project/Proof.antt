@@ -36,41 +36,41 @@ in-row c =
       behind = λ over. (row, r .behind (omega (arith, over, p .src-at, p .dst-at, turns (a .m) n (l .i) h)));
     }
 
--- src/select.rt:95:22
+-- src/select.rt:97:22
 mul-room : tie.Need-mul-room Inv-loop μ-loop
 mul-room c = omega (arith, c .before .before .before .before .pre .1 .inside, c .before .before .before .before .good)
 
--- src/select.rt:95:16
+-- src/select.rt:97:16
 add-room : tie.Need-add-room Inv-loop μ-loop
 add-room c = omega (arith, c .before .before .before .before .pre .1 .inside, c .before .before .before .before .good)
 
--- src/select.rt:99:5
+-- src/select.rt:101:5
 loop-holds : tie.Need-loop-holds Inv-loop μ-loop
 loop-holds c =
     let a = c .before .before .before .before .args in
     (building-start (a .cells .now) (sym (map-single (cut (a .list .now) (a .ids .now) (envOf (a .env .now))) (rowsFrom (a .own) (a .m) (length (a .ids .now)) (a .cells .now)))), refl)
 
--- src/select.rt:100:9
+-- src/select.rt:102:9
 move-cut-requires : tie.Need-move-cut-requires Inv-loop μ-loop
 move-cut-requires c κs = (c .before .before .before .before .before .before .before .pre .0, rw (c .before .before .loop .inv .1) (in-row (c .before)))
 
--- src/select.rt:101:9
+-- src/select.rt:103:9
 add-i : tie.Need-add-i Inv-loop μ-loop
 add-i c = omega arith
 
--- src/select.rt:102:9
+-- src/select.rt:104:9
 add-src : tie.Need-add-src Inv-loop μ-loop
 add-src c = let r = in-row (c .before .before .before .before) in omega (arith, r .inside, c .before .before .before .before .before .before .before .before .before .before .good)
 
--- src/select.rt:103:9
+-- src/select.rt:105:9
 add-dst : tie.Need-add-dst Inv-loop μ-loop
 add-dst c = let r = in-row (c .before .before .before .before) in omega (arith, r .ends, r .inside, c .before .before .before .before .before .before .before .before .before .before .good)
 
--- src/select.rt:99:5
+-- src/select.rt:101:5
 loop-less : tie.Need-loop-less Inv-loop μ-loop
 loop-less c = omega arith
 
--- src/select.rt:99:5
+-- src/select.rt:101:5
 loop-again : tie.Need-loop-again Inv-loop μ-loop
 loop-again c =
     let a = c .before .before .before .before .before .before .before .before .before .before .args in
@@ -84,11 +84,11 @@ loop-again c =
     let next : l .dst + n ≡ l .dst + 1 * n = omega (arith, one-mul n) in
     (building-turn (l .inv .0) (t .last .0) 1 (l .i + 1) (l .dst + n) h (gives-one (single (cut (a .list .now) (a .ids .now) (envOf (a .env .now))) (rowAt (l .src) w (l .cells))) n row _ refl (t .ensures .here)) (t .ensures .before) left refl next, t .kept .0 ∙ l .inv .1)
 
--- src/select.rt:82:1
+-- src/select.rt:84:1
 same-length : tie.Need-same-length Inv-loop μ-loop
 same-length c = c .before .loop .inv .1
 
--- src/select.rt:82:1
+-- src/select.rt:84:1
 returns : tie.Need-returns Inv-loop μ-loop
 returns c =
     let a = c .before .before .before .before .before .before .args in
