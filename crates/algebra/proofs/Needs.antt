@@ -32,7 +32,7 @@ extent T p = bound T p * width T p
 abbrev pub needBefore : Tables → Plan → ℕ
 needBefore T p = total (map (extent T) (subtrees p)) + 4096
 
-counted-most : (r : Bool) (b : ℕ) → countedRows r b ≤ b
+pub counted-most : (r : Bool) (b : ℕ) → countedRows r b ≤ b
 counted-most true b = omega arith
 counted-most false b = omega arith
 

@@ -18,7 +18,7 @@ use crate::tree::nodes_of;
 use crate::tree::tree_end;
 
 // Whether a node's rows take a region of scratch; Select, Project, Semi, Anti, Some and Every pass rows on without one.
-pub fn has_region(node: Node) -> bool
+fn has_region(node: Node) -> bool
     ensures { λ r. ⌜ r ≡ hasRegion (operatorOf node) ⌝ }
 {
     let kind = node.kind;
@@ -29,7 +29,7 @@ pub fn has_region(node: Node) -> bool
 }
 
 // The rows that a node of a bound counts: all of them where it has a region; else one, and none where the bound is 0.
-fn counted_rows(node: Node, bound: usize) -> usize
+pub fn counted_rows(node: Node, bound: usize) -> usize
     ensures { λ r. ⌜ r ≡ countedRows (hasRegion (operatorOf node)) bound ⌝ }
 {
     if has_region(node) {

@@ -3,25 +3,25 @@ use mathlib.Core.Path.{_≡_, refl, sym, ap, _∙_, subst}
 use mathlib.Core.Bool.{Bool, true, false}
 use mathlib.Core.List.{List}
 use Prim.Native.Nat.{ℕ, _+_, _*_, _-_, _≤_, _<_, min}
-use native.Mathlib.Nat.{le-trans, zero-mul, one-mul, mul-le-mul}
+use native.Mathlib.Nat.{le-trans, mul-le-mul}
 use native.Mathlib.Omega.{arith}
-use native.Mathlib.Decide.{decLe}
 use lib.ListN.{length, take, drop}
 use lib.Seq.{take-take}
 use borrow.Rule.Slice.PartMut.{putMid, take-put}
-use Rattle.algebra.specs.Lists.{if_then_else_, flatMap}
+use Rattle.algebra.specs.Lists.{flatMap}
 use Rattle.algebra.specs.Plans.{Row, Env, Tables, unit, Plan, leaf, bind, columns, eval}
 use Rattle.algebra.specs.Places.{Operator}
-use Rattle.algebra.specs.Refusals.{width, bound, hasRegion, part}
+use Rattle.algebra.specs.Refusals.{width, bound, hasRegion, countedRows, part}
 use Rattle.algebra.proofs.Needs.{extent}
 use Rattle.reading.specs.TableSet.{tablesOf}
 use Rattle.reading.specs.Tree.{planAt}
 use Rattle.reading.specs.Nodes.{operatorNested}
 use Rattle.reporting.specs.Rows.{chunk, rowAt, rowsFrom, envOf, Gives, acted, actedColumns, emitted, emittedColumns, emittedMost}
 use Rattle.reporting.specs.Written.{Emitted}
-use Rattle.reporting.specs.Evaluation.{columnsAt, Sound, Ready, regionOf, UnaryRoom, StepRoom, LoopRoom, NestedStep, nestedRow, plainRow, leafGiven, leafWidth, leafMost}
-use Rattle.reporting.proofs.Chunks.{mono, chunk-drop-same, row-same}
+use Rattle.reporting.specs.Evaluation.{columnsAt, Sound, Ready, shareOf, UnaryRoom, StepRoom, LoopRoom, NestedStep, nestedRow, plainRow, leafGiven, leafWidth, leafMost}
+use Rattle.reporting.proofs.Chunks.{mono, turns, chunk-drop-same, row-same}
 use Rattle.reporting.proofs.Lent.{lent-rows}
+use Rattle.reporting.proofs.Building.{one-row}
 use Rattle.reporting.proofs.Soundness.{sound-bound, sound-within}
 use Rattle.reporting.proofs.Children.{most-mono, Childless, First, Single, Double}
 
@@ -66,12 +66,12 @@ module _ {T : Tables} {op : Operator} {P : Plan} (L : Childless T op P) where
   pub leaf-arm : (env : Env) {r : ℕ} {cells : List ℕ} → Gives (leafGiven T op) (leafWidth T op) (leafMost T op) r cells → Gives (eval T P env) (width T P) (bound T P) r cells
   leaf-arm env g = gives-as g (sym (L .rows env)) (sym (L .wide)) (omega (arith, L .most))
 
--- ---- the region: room for more rows is no smaller
-region-mono : (op : Operator) (j k w : ℕ) → j ≤ k → regionOf op j w ≤ regionOf op k w
-region-mono op j k w h = elim (hasRegion op) as (λ b. (if b then j * w else 0) ≤ (if b then k * w else 0)) [ true ↦ mono j k w h | false ↦ omega arith ]
+-- ---- a node counts no fewer cells for more rows
+share-mono : (op : Operator) (j k w : ℕ) → j ≤ k → shareOf op j w ≤ shareOf op k w
+share-mono op j k w h = elim (hasRegion op) as (λ b. countedRows b j * w ≤ countedRows b k * w) [ true ↦ mono j k w h | false ↦ mono (min 1 j) (min 1 k) w (omega arith) ]
 
 -- ---- the first child
-module _ {T : Tables} {op : Operator} {P p : Plan} {len words own : ℕ} (R : Ready T P len words) (F : First T op P p) (o : own ≡ regionOf op (bound T P) (width T P)) where
+module _ {T : Tables} {op : Operator} {P p : Plan} {len words own : ℕ} (R : Ready T P len words) (F : First T op P p) (o : own ≡ shareOf op (bound T P) (width T P)) where
   pub own-fits : own ≤ len
   own-fits = omega (arith, R .room, F .room)
 
@@ -83,31 +83,25 @@ left-rows {T} {p} {m = m} {ys = ys} own j cells h C = lent-rows own j cells ys m
 
 -- ---- a node with one child
 module _ {T : Tables} {op : Operator} {P p : Plan} (S : Single T op P p) where
-  -- where the node has a region it has room for all rows; where it has none they are no wider than the child's, and one more has room behind these
-  module _ {len words own : ℕ} (m : ℕ) (R : Ready T P len words) (F : First T op P p) (o : own ≡ regionOf op (bound T P) (width T P)) (h : m ≤ bound T p) where
+  -- where the node has a region it has room for all rows; where it has none they are no wider than the child's, and the first is written to its room for one
+  module _ {len words own : ℕ} (m : ℕ) (R : Ready T P len words) (F : First T op P p) (o : own ≡ shareOf op (bound T P) (width T P)) (h : m ≤ bound T p) where
     abbrev wo : ℕ
     wo = length (actedColumns op (columns T p))
 
-    at : own ≡ regionOf op (bound T p) wo
-    at = o ∙ (λ i. regionOf op (S .most i) (length (S .ids i)))
+    at : own ≡ shareOf op (bound T p) wo
+    at = o ∙ (λ i. shareOf op (S .most i) (length (S .ids i)))
 
-    ends-by : (b : Bool) → hasRegion op ≡ b → m * wo ≤ own + m * width T p
-    ends-by true e = let a : own ≡ bound T p * wo = rw e at at in omega (arith, mono m (bound T p) wo h)
-    ends-by false e = let k : m * wo ≤ m * width T p = mul-le-mul (omega arith) (S .slim (R .sound) e) in omega arith
-
-    behind-by : (b : Bool) → hasRegion op ≡ b → own < m * wo → own + m * width T p + wo ≤ len
-    behind-by true e l = let a : own ≡ bound T p * wo = rw e at at in absurd (omega (arith, mono m (bound T p) wo h))
-    behind-by false e l =
-        let none : own ≡ 0 = rw e at at in
-        let some : 1 ≤ m = elim (decLe 1 m) [ yes k ↦ k | no k ↦ absurd (omega (arith, mono m 0 wo (omega arith), zero-mul wo)) ] in
-        let one : min 1 (bound T P) ≡ 1 = omega (arith, S .most) in
-        let row : min 1 (bound T P) * width T P ≡ wo = ap (λ (k : ℕ). k * width T P) one ∙ one-mul (width T P) ∙ ap length (S .ids) in
-        omega (arith, S .row e, R .room, rows-inside m (F .sound (R .sound)) h)
+    below-by : (b : Bool) → hasRegion op ≡ b → (i : ℕ) → i < m → i * wo + wo ≤ own + i * width T p
+    below-by true e i l = let a : own ≡ bound T p * wo = rw e at at in omega (arith, turns m wo i l, mono m (bound T p) wo h)
+    below-by false e i l =
+        let a : own ≡ min 1 (bound T p) * wo = rw e at at in
+        let less : i * wo ≤ i * width T p = mul-le-mul (omega arith) (S .slim (R .sound) e) in
+        omega (arith, one-row wo (bound T p) (omega arith))
 
     pub unary-room : UnaryRoom op (columns T p) own m len
     unary-room = record {
-      region = omega (arith, at, region-mono op m (bound T p) wo h);
-      cuts = record { ends = ends-by (hasRegion op) refl; inside = omega (arith, F .room, R .room, rows-inside m (F .sound (R .sound)) h); behind = behind-by (hasRegion op) refl };
+      share = omega (arith, at, share-mono op m (bound T p) wo h);
+      cuts = record { below = below-by (hasRegion op) refl; inside = omega (arith, F .room, R .room, rows-inside m (F .sound (R .sound)) h) };
     }
 
   pub unary-arm : {env : Env} {m r : ℕ} {ys cells′ : List ℕ} (own j : ℕ) (cells : List ℕ) → own ≤ length cells → Kid T p env m ys
@@ -122,7 +116,7 @@ module _ {T : Tables} {op : Operator} {P p q : Plan} (D : Double T op P p q) whe
   pub emitted-few : (m k : ℕ) → m ≤ bound T p → k ≤ bound T q → m * emittedMost op k ≤ bound T P
   emitted-few m k h f = subst (λ (x : ℕ). m * emittedMost op k ≤ x) (sym (D .most)) (mul-le-mul h (most-mono op k (bound T q) f))
 
-  module _ {len words own behind : ℕ} (R : Ready T P len words) (F : First T op P p) (o : own ≡ regionOf op (bound T P) (width T P)) (b : behind ≡ own + part T p) where
+  module _ {len words own behind : ℕ} (R : Ready T P len words) (F : First T op P p) (o : own ≡ shareOf op (bound T P) (width T P)) (b : behind ≡ own + part T p) where
     pub behind-fits : behind ≤ len
     behind-fits = omega (arith, R .room, D .room)
 
@@ -135,15 +129,15 @@ module _ {T : Tables} {op : Operator} {P p q : Plan} (D : Double T op P p q) whe
     pub few-of : (m k : ℕ) → m ≤ bound T p → k ≤ bound T q → m * emittedMost op k ≤ 4096
     few-of m k h f = le-trans (emitted-few m k h f) (sound-bound (R .sound))
 
-    -- the region has room for what the left rows give, and they end before the second child's part
+    -- what the node counts has room for what the left rows give, and they end before the second child's part
     pub loop-room : (m k : ℕ) → m ≤ bound T p → k ≤ bound T q → LoopRoom op (columns T p) (columns T q) k own m behind
-    loop-room m k h f = record { region = omega (arith, at, region-mono op (m * emittedMost op k) (bound T P) wo (emitted-few m k h f)); apart = omega (arith, rows-inside m (F .sound (R .sound)) h) }
+    loop-room m k h f = record { share = omega (arith, at, share-mono op (m * emittedMost op k) (bound T P) wo (emitted-few m k h f)); apart = omega (arith, rows-inside m (F .sound (R .sound)) h) }
       where
         wo : ℕ
         wo = length (emittedColumns op (columns T p) (columns T q))
 
-        at : own ≡ regionOf op (bound T P) wo
-        at = o ∙ ap (λ (cs : List ℕ). regionOf op (bound T P) (length cs)) (D .ids)
+        at : own ≡ shareOf op (bound T P) wo
+        at = o ∙ ap (λ (cs : List ℕ). shareOf op (bound T P) (length cs)) (D .ids)
 
   pub nested-arm : {env : Env} {m r : ℕ} {ys cells′ : List ℕ} (own j : ℕ) (cells : List ℕ) → operatorNested op ≡ true → own ≤ length cells → Kid T p env m ys
       → Gives (flatMap (nestedRow T op (columns T p) q env) (chunk m (width T p) (drop own (putMid own j cells ys)))) (length (emittedColumns op (columns T p) (columns T q))) (m * emittedMost op (bound T q)) r cells′
@@ -169,7 +163,7 @@ module _ {T : Tables} {op : Operator} {P p q : Plan} (D : Double T op P p q) whe
 -- the room for a row's rows is enough for fewer right rows
 pub step-less : {op : Operator} {cs ds : List ℕ} {k src dst behind : ℕ} (j : ℕ) → StepRoom op cs ds k src dst behind → j ≤ k → StepRoom op cs ds j src dst behind
 step-less {op} {cs} {ds} {k} j r h = record {
-  below = omega (arith, r .below, region-mono op (emittedMost op j) (emittedMost op k) (length (emittedColumns op cs ds)) (most-mono op j k h));
+  below = omega (arith, r .below, share-mono op (emittedMost op j) (emittedMost op k) (length (emittedColumns op cs ds)) (most-mono op j k h));
   apart = r .apart;
 }
 

@@ -3,11 +3,10 @@
 use mathlib.Core.Path.{_≡_, refl, sym, ap, _∙_}
 use mathlib.Core.Bool.{Bool, true, false, cond}
 use mathlib.Core.List.{List, [], _∷_, _++_, map, append-assoc, append-nil}
-use Prim.Native.Nat.{ℕ, _+_, _*_, _-_, _≤_, _<_}
-use native.Mathlib.Nat.{add-zero, zero-mul, one-mul, mul-one, add-mul, mul-add, le-trans, mul-le-mul}
+use Prim.Native.Nat.{ℕ, zero, suc, _+_, _*_, _-_, _≤_, _<_, min}
+use native.Mathlib.Nat.{add-zero, zero-mul, one-mul, mul-one, add-mul, le-trans}
 use native.Mathlib.Numerals.{add-one}
 use native.Mathlib.Omega.{arith}
-use native.Mathlib.Decide.{decLe}
 use lib.ListN.{take, drop}
 use Rattle.algebra.specs.Lists.{filter, flatMap}
 use Rattle.algebra.specs.Plans.{Row}
@@ -15,7 +14,7 @@ use Rattle.algebra.specs.Places.{Operator}
 use Rattle.algebra.specs.Refusals.{hasRegion}
 use Rattle.reporting.specs.Rows.{chunk, Gives}
 use Rattle.reporting.specs.Written.{Written}
-use Rattle.reporting.specs.Evaluation.{regionOf}
+use Rattle.reporting.specs.Evaluation.{shareOf, CutsRoom}
 use Rattle.reporting.proofs.Chunks.{mono, turns, times-suc, next-row, chunk-add, chunk-same, gives-one, gives-none}
 use Rattle.reporting.proofs.Copies.{written-rest}
 
@@ -105,42 +104,42 @@ module _ {f : Row → List Row} {answer : List Row} {per m w wo own : ℕ} where
               ∙ ap (λ (k : ℕ). chunk k wo cells′ ++ flatMap f (chunk (m - (i + 1)) w (drop (src + w) cells′))) (sym eo);
         }
 
--- ---- where the rows of the row at hand go: into the node's region, which ends before the rows; or each row gives at most itself, and it
--- only moves down
+-- ---- where the rows of the row at hand go: they end before it begins
+pub one-row : (w rows : ℕ) → 1 ≤ rows → min 1 rows * w ≡ w
+one-row w rows h = let one : min 1 rows ≡ 1 = omega arith in ap (λ (k : ℕ). k * w) one ∙ one-mul w
+
+-- rows that are kept take no more cells than those that were read
+kept-rows : {f : Row → List Row} {answer : List Row} {m w own : ℕ} {cells : List ℕ} {i out src dst : ℕ} → Building f answer 1 m w w own cells i out src dst → dst ≤ i * w
+kept-rows {w = w} {i = i} {out = out} p = omega (arith, p .dst-at, mono out i w (omega (arith, p .few, mul-one i)))
+
 pub kept-below : {f : Row → List Row} {answer : List Row} {m w own : ℕ} {cells : List ℕ} {i out src dst : ℕ} → Building f answer 1 m w w own cells i out src dst → dst ≤ src
-kept-below {w = w} {i = i} {out = out} p = omega (arith, p .dst-at, p .src-at, mono out i w (omega (arith, p .few, mul-one i)))
+kept-below p = omega (arith, p .src-at, kept-rows p)
 
 module _ {f : Row → List Row} {answer : List Row} {per m w wo own : ℕ} {cells : List ℕ} {i out src dst : ℕ} (p : Building f answer per m w wo own cells i out src dst) (h : i < m)
-    (op : Operator) (keeps : hasRegion op ≡ false → (per ≡ 1) × (wo ≡ w)) (room : regionOf op (m * per) wo ≤ own) where
-  -- the row at hand as one that is kept
-  kept-here : hasRegion op ≡ false → dst ≤ src
-  kept-here e = let (a, b) = keeps e in kept-below (rw (a, b) at p)
-
-  pub turn-below : dst + regionOf op per wo ≤ src
+    (op : Operator) (keeps : hasRegion op ≡ false → (per ≡ 1) × (wo ≡ w)) (room : shareOf op (m * per) wo ≤ own) where
+  pub turn-below : dst + shareOf op per wo ≤ src
   turn-below = by (hasRegion op) refl
     where
-      by : (b : Bool) → hasRegion op ≡ b → dst + regionOf op per wo ≤ src
+      by : (b : Bool) → hasRegion op ≡ b → dst + shareOf op per wo ≤ src
       by true e = rw e (omega (arith, building-room p per h (omega arith), rw e at room, p .src-at))
-      by false e = rw e (omega (arith, kept-here e))
+      by false e =
+          let (a, b) = keeps e in
+          let all : m * per ≡ m = ap (λ (k : ℕ). m * k) a ∙ mul-one m in
+          let first : min 1 (m * per) * wo ≡ wo = one-row wo (m * per) (omega arith) in
+          let row : min 1 per * wo ≡ wo = one-row wo per (omega arith) in
+          rw e (omega (arith, row, first, rw e at room, p .src-at, kept-rows (rw (a, b) at p), b))
 
-  -- they end no later than the row does
-  pub turn-ends : (r : ℕ) → r ≤ per → dst + r * wo ≤ src + w
+  pub turn-ends : (r : ℕ) → r ≤ per → dst + r * wo ≤ src
   turn-ends r l = by (hasRegion op) refl
     where
-      by : (b : Bool) → hasRegion op ≡ b → dst + r * wo ≤ src + w
-      by true e = omega (arith, building-room p r h l, rw e at room, p .src-at)
-      by false e = let (a, b) = keeps e in omega (arith, kept-here e, mono r 1 wo (omega arith), one-mul wo)
+      by : (b : Bool) → hasRegion op ≡ b → dst + r * wo ≤ src
+      by true e = omega (arith, rw e at turn-below, mono r per wo l)
+      by false e = omega (arith, rw e at turn-below, mono r (min 1 per) wo (omega (arith, keeps e .0)))
 
--- cut rows that end no later than the rows do, all of them together, do so one by one
-pub cut-ends : (own n w m i : ℕ) → m * n ≤ own + m * w → i ≤ m → i * n ≤ own + i * w
-cut-ends own n w m i h l = elim (decLe n w) [
-  | yes k ↦ let less : i * n ≤ i * w = mul-le-mul (omega arith) k in omega arith
-  | no k ↦
-      let d : ℕ = n - w in
-      let e : n ≡ w + d = omega arith in
-      let more : (j : ℕ) → j * n ≡ j * w + j * d = λ j. ap (λ (x : ℕ). j * x) e ∙ mul-add j w d in
-      omega (arith, more m, more i, mono i m d l)
-]
+-- cut rows, each of which ends before its row begins, end within the cells
+pub cuts-inside : {w n own cells : ℕ} (m : ℕ) → CutsRoom w n own m cells → m * n ≤ cells
+cuts-inside {n = n} zero r = omega (arith, zero-mul n)
+cuts-inside {w} {n} (suc i) r = omega (arith, times-suc i n, times-suc i w, r .below i (omega arith), r .inside)
 
 -- ---- a row that gives at most one row
 module _ {f : Row → List Row} {answer : List Row} {m w wo own : ℕ} {cells : List ℕ} {i out src dst : ℕ} (p : Building f answer 1 m w wo own cells i out src dst) (h : i < m) where

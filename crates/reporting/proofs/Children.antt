@@ -1,5 +1,5 @@
 -- What the tree at a place is made of, by the number of its node's children. Assumes nothing.
-use Prim.Native.Nat.{ℕ, _+_, _*_, _≤_, _<_, min}
+use Prim.Native.Nat.{ℕ, _+_, _*_, _≤_, _<_}
 use mathlib.Core.Bool.{Bool, true, false, not, _&&_, true≢false}
 use mathlib.Core.Logic.{_⊎_, inl, inr, ⊎-elim}
 use mathlib.Core.Path.{_≡_, refl, sym, ap, subst}
@@ -8,10 +8,10 @@ use native.Mathlib.Omega.{arith}
 use lib.Dec.{ltb}
 use lib.ListN.{length, length-append}
 use borrow.Author.Tests.{le-ltb}
-use Rattle.algebra.specs.Lists.{if_then_else_, flatMap}
+use Rattle.algebra.specs.Lists.{flatMap}
 use Rattle.algebra.specs.Plans.{Env, Tables, Leaf, Unary, select, project, distinct, group, sort, Binary, cross, semi, quant, fold, each, pair, Plan, leaf, one, two, bind, unaryColumns, columns, nested, around, emit, joined, eval}
 use Rattle.algebra.specs.Places.{Operator, leafNode, unaryNode, binaryNode, size}
-use Rattle.algebra.specs.Refusals.{width, bound, unaryRegion, binaryRegion, hasRegion, countedRows, part}
+use Rattle.algebra.specs.Refusals.{width, bound, unaryRegion, hasRegion, part}
 use Rattle.algebra.proofs.Refusals.{in-view-one}
 use Rattle.algebra.proofs.Needs.{part-one, part-two, list-narrow}
 use Rattle.reading.specs.Plan.{nodeAt, nodesOf}
@@ -21,13 +21,8 @@ use Rattle.reading.specs.declared.plan.Node.{Node}
 use Rattle.reading.proofs.Operators.{by-kind, kind-above}
 use Rattle.reading.proofs.Trees.{plan-case, firstTree, secondTree}
 use Rattle.reporting.specs.Rows.{acted, actedColumns, emitted, emittedColumns, emittedMost}
-use Rattle.reporting.specs.Evaluation.{Sound, regionOf, nestedRow, plainRow, leafGiven, leafWidth, leafMost}
+use Rattle.reporting.specs.Evaluation.{Sound, shareOf, nestedRow, plainRow, leafGiven, leafWidth, leafMost}
 use Rattle.reporting.proofs.Soundness.{sound-child, sound-left, sound-right}
-
--- ---- a node's region, where it has one, is what the node counts
-region-share : (r : Bool) (b w : ℕ) → (if r then b * w else 0) ≤ countedRows r b * w
-region-share true b w = omega arith
-region-share false b w = omega arith
 
 -- ---- by the number of children
 
@@ -39,16 +34,15 @@ pub record Childless (T : Tables) (op : Operator) (P : Plan) : Type 0 where
 -- p the first child
 pub record First (T : Tables) (op : Operator) (P p : Plan) : Type 0 where
   pub sound : Sound T P → Sound T p
-  pub room : regionOf op (bound T P) (width T P) + part T p ≤ part T P
+  pub room : shareOf op (bound T P) (width T P) + part T p ≤ part T P
   pub smaller : size p < size P
 
--- .. and the only one; without a region the node's rows are no wider than the child's, and there is room for one of them besides its part
+-- .. and the only one; without a region the node's rows are no wider than the child's
 pub record Single (T : Tables) (op : Operator) (P p : Plan) : Type 0 where
   pub rows : (env : Env) → eval T P env ≡ acted op (columns T p) env (eval T p env)
   pub ids : columns T P ≡ actedColumns op (columns T p)
   pub most : bound T P ≡ bound T p
   pub slim : Sound T P → hasRegion op ≡ false → length (actedColumns op (columns T p)) ≤ width T p
-  pub row : hasRegion op ≡ false → min 1 (bound T P) * width T P + part T p ≤ part T P
 
 -- .. or the first of two; the second is run for each left row where the node is nested
 pub record Double (T : Tables) (op : Operator) (P p q : Plan) : Type 0 where
@@ -57,7 +51,7 @@ pub record Double (T : Tables) (op : Operator) (P p q : Plan) : Type 0 where
   pub ids : columns T P ≡ emittedColumns op (columns T p) (columns T q)
   pub most : bound T P ≡ bound T p * emittedMost op (bound T q)
   pub sound : Sound T P → Sound T q
-  pub room : regionOf op (bound T P) (width T P) + part T p + part T q ≤ part T P
+  pub room : shareOf op (bound T P) (width T P) + part T p + part T q ≤ part T P
   pub smaller : size q < size P
 
 module _ (T : Tables) where
@@ -69,12 +63,12 @@ module _ (T : Tables) where
   unfolding size
   first-one u p = record {
     sound = sound-child;
-    room = omega (arith, region-share (unaryRegion u) (bound T (one u p)) (width T (one u p)), part-one T u p);
+    room = omega (arith, part-one T u p);
     smaller = omega arith;
   }
 
-  two-room : (b : Binary) (e f : Plan) → regionOf (binaryNode b) (bound T (two b e f)) (width T (two b e f)) + part T e + part T f ≤ part T (two b e f)
-  two-room b e f = omega (arith, region-share (binaryRegion b) (bound T (two b e f)) (width T (two b e f)), part-two T b e f)
+  two-room : (b : Binary) (e f : Plan) → shareOf (binaryNode b) (bound T (two b e f)) (width T (two b e f)) + part T e + part T f ≤ part T (two b e f)
+  two-room b e f = omega (arith, part-two T b e f)
 
   first-two : (b : Binary) (e f : Plan) → First T (binaryNode b) (two b e f) e
   unfolding size
@@ -87,12 +81,9 @@ module _ (T : Tables) where
   slim-one (group g n l r c t) p s e = absurd (true≢false e)
   slim-one (sort d ids) p s e = absurd (true≢false e)
 
-  row-one : (u : Unary) (p : Plan) → unaryRegion u ≡ false → min 1 (bound T (one u p)) * width T (one u p) + part T p ≤ part T (one u p)
-  row-one u p e = let s = ap (λ r. countedRows r (bound T (one u p)) * width T (one u p)) e in omega (arith, part-one T u p)
-
   pub single : (u : Unary) (p : Plan) → Single T (unaryNode u) (one u p) p
   unfolding eval columns bound acted
-  single u p = record { rows = λ env. refl; ids = refl; most = refl; slim = slim-one u p; row = row-one u p }
+  single u p = record { rows = λ env. refl; ids = refl; most = refl; slim = slim-one u p }
 
   double-rows : (b : Binary) (e f : Plan) (m : Bool) (env : Env) → nested b ≡ m
       → eval T (two b e f) env ≡ flatMap (λ l. emit b (columns T f) l (bind (columns T e) l env) (eval T f (around m env (bind (columns T e) l env)))) (eval T e env)

@@ -1,5 +1,4 @@
 -- Copies of cells, and rows written among cells. Assumes nothing.
-use mathlib.Core.Logic.{⊎-elim}
 use mathlib.Core.Path.{_≡_, refl, sym, ap, _∙_}
 use mathlib.Core.List.{List, [], _∷_, _++_}
 use Prim.Native.Nat.{ℕ, _+_, _-_, _≤_, _<_}
@@ -9,8 +8,7 @@ use native.Mathlib.Omega.{arith}
 use lib.ListN.{length, take, drop, getD, set, length-drop}
 use lib.Seq.{paste, paste-suc, length-paste-head, getD-append-add, getD-drop, drop-drop, drop-cons, take-add, take-take, take-set-le, drop-set-lt, drop-set-add}
 use Rattle.algebra.specs.Plans.{Row}
-use Rattle.reporting.specs.Rows.{rowAt}
-use Rattle.reporting.specs.Written.{Written, Apart, CutWritten, CutMoved}
+use Rattle.reporting.specs.Written.{Written}
 use Rattle.reporting.proofs.Chunks.{paste-front, paste-row, paste-rest, row-same}
 
 -- past what a copy has replaced, the list is as it was
@@ -55,11 +53,6 @@ written-rest {at} {w} {row} {c} {d} p k h =
 pub written-front : {at w : ℕ} {row : Row} {c d : List ℕ} → Written at w row c d → (k : ℕ) → k ≤ at → take k d ≡ take k c
 written-front {at} {w} {row} {c} {d} p k h = sym (take-take k at d h) ∙ ap (take k) (p .before) ∙ take-take k at c h
 
--- a row apart from what is written
-pub written-apart : (src v n : ℕ) {at w : ℕ} {row : Row} {c d : List ℕ} → Apart src v at n → w ≤ n → Written at w row c d → rowAt src v d ≡ rowAt src v c
-written-apart src v n {at} {w} {row} {c} {d} apart h p =
-    ⊎-elim (λ l. ap (take v) (written-rest p src (omega arith))) (λ l. row-same src v at d c l (p .before)) apart
-
 -- nothing is written yet
 pub written-none : (at : ℕ) (c : List ℕ) → Written at 0 [] c c
 written-none at c = record { before = refl; here = refl; behind = refl }
@@ -101,27 +94,6 @@ written-as e p = record { before = p .before; here = p .here ∙ e; behind = p .
 -- one cell more
 pub written-more : {at w : ℕ} {row : Row} {c d : List ℕ} (v : ℕ) → Written at w row c d → at + w < length d → Written at (w + 1) (row ++ (v ∷ [])) c (set d (at + w) v)
 written-more {at} {w} {row} {c} {d} v p h = written-both p (written-cell d (at + w) v h)
-
--- ---- a cut of the row at src
-module _ (ids cs words : List ℕ) (src dst room : ℕ) (c d : List ℕ) where
-  abbrev End : ℕ
-  End = src + length cs
-
-  -- it was written at once
-  pub moved-once : dst + length ids ≤ src → CutWritten ids cs words src dst c d → CutMoved ids cs words src dst room c d
-  moved-once h p = record { before = p .before; here = p .here; between = ap (take (room - End)) (written-rest p End (omega arith)) }
-
-  -- it was written to the room behind the row, and then moved down
-  pub moved-down : (e : List ℕ) → End ≤ room → dst + length ids ≤ End → room + length ids ≤ length d → CutWritten ids cs words src room c d → e ≡ paste d dst (drop room d) (length ids)
-      → CutMoved ids cs words src dst room c e
-  moved-down e h k l p q =
-      let long : length (drop room d) ≡ length d - room = length-drop room d in
-      let copy : Written dst (length ids) (rowAt room (length ids) d) d e = written-copy d e (drop room d) dst (length ids) q (omega arith) (omega arith) in
-      record {
-        before = copy .before ∙ written-front p dst (omega arith);
-        here = copy .here ∙ p .here;
-        between = ap (take (room - End)) (written-rest copy End k) ∙ row-same End (room - End) room d c (omega arith) (p .before);
-      }
 
 -- a row and then another, both copied down
 pub written-joined : (c d e : List ℕ) (src from to w v : ℕ) → d ≡ paste c to (drop src c) w → e ≡ paste d (to + w) (drop from d) v → length d ≡ length c

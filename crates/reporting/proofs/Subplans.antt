@@ -147,7 +147,7 @@ module _ (T : Tables) (p : Plan) (id : ℕ) (op : Operator) (e : op ≡ unaryNod
 
   -- the keys, one cell each, stand before the tree's rows
   pub keys-room : (m cells : ℕ) → m ≤ 4096 → 4096 + m * width T p ≤ cells → UnaryRoom op (columns T p) 4096 m cells
-  keys-room m cells h k = rw e (record { region = omega arith; cuts = record { ends = omega arith; inside = k; behind = λ l. absurd (omega arith) } })
+  keys-room m cells h k = rw e (record { share = omega arith; cuts = record { below = λ i l. omega arith; inside = k } })
 
   pub keys-evaluated : (scratch ys cells : List ℕ) (m rows j : ℕ) → 4096 ≤ length scratch → Ready T p (length ys) 256
       → Gives (eval T p (envOf (replicate 256 0))) (width T p) (bound T p) m ys

@@ -3,12 +3,12 @@ use Prim.Native.Nat.{ℕ, _+_, _*_, _-_, _≤_, _<_}
 use mathlib.Core.Bool.{true}
 use mathlib.Core.Path.{_≡_}
 use mathlib.Core.List.{List, [], map}
-use Rattle.algebra.specs.Lists.{if_then_else_, filter, all, flatMap}
+use Rattle.algebra.specs.Lists.{filter, all, flatMap}
 use lib.ListN.{length, take, drop}
 use Rattle.algebra.specs.Plans.{Row, Env, Test, Tables, Plan, leafColumns, leafRows, columns, bind, holds, cut, eval}
 use Rattle.algebra.specs.Places.{Operator, leafNode, unaryNode, binaryNode, subtrees}
 use Rattle.algebra.specs.Names.{introduced}
-use Rattle.algebra.specs.Refusals.{byte, inView, narrow, low, width, bound, hasRegion, part, leafBound}
+use Rattle.algebra.specs.Refusals.{byte, inView, narrow, low, width, bound, hasRegion, countedRows, part, leafBound}
 use Rattle.reading.specs.TableSet.{columnsOf, rowsOf, tableRows, tablesOf}
 use Rattle.reading.specs.Tree.{planAt}
 use Rattle.reporting.specs.Rows.{rowAt, rowsFrom, envOf, Gives, acted, actedColumns, emitted, emittedColumns, emittedMost}
@@ -60,14 +60,13 @@ ReadyAt set plan i cells env = Ready (tablesOf set) (planAt plan i) cells env
 abbrev pub TreeGiven : List ℕ → List ℕ → ℕ → List ℕ → ℕ → List ℕ → Type 0
 TreeGiven set plan i words r cells = Gives (rowsAt set plan i words) (widthAt set plan i) (boundAt set plan i) r cells
 
--- The cells that so many rows of w cells take in the node's region, which stands before its first child's part. A node without a region
--- works in place, in the cells of its first child's rows.
-abbrev pub regionOf : Operator → ℕ → ℕ → ℕ
-regionOf op rows w = if hasRegion op then rows * w else 0
+-- The cells that a node counts for so many rows of w cells: its region, or one row. They stand before its first child's part.
+abbrev pub shareOf : Operator → ℕ → ℕ → ℕ
+shareOf op rows w = countedRows (hasRegion op) rows * w
 
--- the region of a node op at a place
-abbrev pub regionAt : List ℕ → List ℕ → ℕ → Operator → ℕ
-regionAt set plan i op = regionOf op (boundAt set plan i) (widthAt set plan i)
+-- .. of a node op at a place
+abbrev pub shareAt : List ℕ → List ℕ → ℕ → Operator → ℕ
+shareAt set plan i op = shareOf op (boundAt set plan i) (widthAt set plan i)
 
 -- ---- a node with no children: its rows, their width, and how many there are at most
 abbrev pub leafGiven : Tables → Operator → List Row
@@ -94,16 +93,14 @@ TableGiven table r cells = Gives (tableRows table) (columnsOf table) (rowsOf tab
 
 -- ---- a node with one child, of whose columns cs m rows stand at `own`
 
--- m rows of n cells each are written at the front: they end no later than the m rows of w cells at `own` do, so that each is written where rows
--- have been read already; and where they do not all fit before these, there is room for one more behind them.
+-- of each of m rows of w cells at `own` a row of n cells is written at the front, which ends before the row begins
 pub record CutsRoom (w n own m cells : ℕ) : Type 0 where
-  pub ends : m * n ≤ own + m * w
+  pub below : (i : ℕ) → i < m → i * n + n ≤ own + i * w
   pub inside : own + m * w ≤ cells
-  pub behind : own < m * n → own + m * w + n ≤ cells
 
--- the node's region stands before the rows
+-- what the node counts stands before the rows
 pub record UnaryRoom (op : Operator) (cs : List ℕ) (own m cells : ℕ) : Type 0 where
-  pub region : regionOf op m (length (actedColumns op cs)) ≤ own
+  pub share : shareOf op m (length (actedColumns op cs)) ≤ own
   pub cuts : CutsRoom (length cs) (length (actedColumns op cs)) own m cells
 
 -- what it leaves at the front
@@ -127,14 +124,14 @@ nestedRow T op cs q env l = emitted op (columns T q) l (bind cs l env) (eval T q
 abbrev pub plainRow : Operator → List ℕ → List ℕ → List Row → Env → Row → List Row
 plainRow op cs ds rs env l = emitted op ds l (bind cs l env) rs
 
--- One left row stands at src, and its right rows, at most k, from `behind` on. What it gives at dst ends before it, or it only moves down.
+-- One left row stands at src, and its right rows, at most k, from `behind` on. What it gives at dst ends before it.
 pub record StepRoom (op : Operator) (cs ds : List ℕ) (k src dst behind : ℕ) : Type 0 where
-  pub below : dst + regionOf op (emittedMost op k) (length (emittedColumns op cs ds)) ≤ src
+  pub below : dst + shareOf op (emittedMost op k) (length (emittedColumns op cs ds)) ≤ src
   pub apart : src + length cs ≤ behind
 
--- m left rows stand at `own`, behind the node's region, and before `behind`
+-- m left rows stand at `own`, behind what the node counts, and before `behind`
 pub record LoopRoom (op : Operator) (cs ds : List ℕ) (k own m behind : ℕ) : Type 0 where
-  pub region : regionOf op (m * emittedMost op k) (length (emittedColumns op cs ds)) ≤ own
+  pub share : shareOf op (m * emittedMost op k) (length (emittedColumns op cs ds)) ≤ own
   pub apart : own + m * length cs ≤ behind
 
 -- what one left row gives, with the environment around the node; behind the row all is as it was

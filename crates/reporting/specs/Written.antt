@@ -1,7 +1,6 @@
 -- Rows written among cells: what one row of a node gives. Private contracts speak of them. Definitions only.
-use Prim.Native.Nat.{ℕ, _+_, _-_, _≤_, _<_, max}
+use Prim.Native.Nat.{ℕ, _+_, _-_, max}
 use mathlib.Core.Bool.{Bool, cond}
-use mathlib.Core.Logic.{_⊎_}
 use mathlib.Core.Path.{_≡_}
 use mathlib.Core.List.{List, [], _∷_, _++_, map}
 use lib.ListN.{length, take, drop}
@@ -23,25 +22,9 @@ pub record Emitted (rows : List Row) (w most r dst rest : ℕ) (entry exit : Lis
 
 -- ---- what one row gives; the row, of columns cs or of w cells, stands at src, and what it gives is written at dst
 
--- two stretches of cells that do not overlap: w cells at src, n cells at `to`
-abbrev pub Apart : ℕ → ℕ → ℕ → ℕ → Type 0
-Apart src w to n = (to + n ≤ src) ⊎ (src + w ≤ to)
-
 -- the row cut to a list of ids
 abbrev pub CutWritten : List ℕ → List ℕ → List ℕ → ℕ → ℕ → List ℕ → List ℕ → Type 0
 CutWritten ids cs words src dst entry exit = Written dst (length ids) (cut ids cs (envOf words) (rowAt src (length cs) entry)) entry exit
-
--- A cut of n cells may end where the row of w cells ends, and no later. Where it overlaps the row there is room for n cells behind the row.
-pub record CutRoom (w n src dst room cells : ℕ) : Type 0 where
-  pub ends : dst + n ≤ src + w
-  pub inside : src + w ≤ cells
-  pub behind : src < dst + n → (src + w ≤ room) × (room + n ≤ cells)
-
--- after that: what stands before dst, and between the row and the room, is as it was
-pub record CutMoved (ids cs words : List ℕ) (src dst room : ℕ) (entry exit : List ℕ) : Type 0 where
-  pub before : take dst exit ≡ take dst entry
-  pub here : rowAt dst (length ids) exit ≡ cut ids cs (envOf words) (rowAt src (length cs) entry)
-  pub between : take (room - (src + length cs)) (drop (src + length cs) exit) ≡ take (room - (src + length cs)) (drop (src + length cs) entry)
 
 -- the row and the node's aggregate over k right rows, which stand at `behind`
 abbrev pub GatherWritten : Operator → List ℕ → List ℕ → ℕ → ℕ → ℕ → ℕ → ℕ → List ℕ → List ℕ → Type 0

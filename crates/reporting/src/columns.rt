@@ -9,11 +9,11 @@ ghost use Rattle.reading.specs.TableSet.{tablesOf};
 ghost use Rattle.reading.specs.Tree.{operatorOf, nodeList};
 ghost use Rattle.reading.specs.Nodes.{operatorNew};
 ghost use Rattle.reporting.specs.Columns.{columnsWay, ownColumns, IdsWritten};
-ghost use Rattle.reporting.specs.Evaluation.{columnsAt, widthAt, regionAt, partAt, SoundAt};
+ghost use Rattle.reporting.specs.Evaluation.{columnsAt, widthAt, shareAt, partAt, SoundAt};
 use reading::bound::bound_at;
 use reading::columns::columns_at;
 use reading::columns::list_length;
-use reading::need::has_region;
+use reading::need::counted_rows;
 use reading::need::part_at;
 use reading::plan::Node;
 use reading::plan::node_at;
@@ -22,15 +22,13 @@ use reading::set::table_from;
 use reading::tree::nodes_of;
 use reading::tree::tree_end;
 
-// The cells of the region of the node at place i: bound × columns; a node that works in place has none.
-pub(crate) fn region_at(set: &[u8], plan: &[u8], i: usize, node: Node) -> usize
+// The cells that the node at place i counts, which stand at the front of its part.
+pub(crate) fn share_at(set: &[u8], plan: &[u8], i: usize, node: Node) -> usize
     requires { ⌜ SoundAt (now set) (now plan) i ⌝ }
-    ensures { λ r. ⌜ (r ≡ regionAt (now (set .entry)) (now (plan .entry)) i (operatorOf node)) × (r ≤ 131072) ⌝ }
+    ensures { λ r. ⌜ (r ≡ shareAt (now (set .entry)) (now (plan .entry)) i (operatorOf node)) × (r ≤ 131072) ⌝ }
 {
-    if !has_region(node) {
-        return 0;
-    }
-    bound_at(set, plan, i) * columns_at(set, plan, i)
+    let rows = counted_rows(node, bound_at(set, plan, i));
+    rows * columns_at(set, plan, i)
 }
 
 // The cells of the part of scratch of the tree at place i.

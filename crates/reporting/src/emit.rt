@@ -1,5 +1,5 @@
 // What one left row gives, for each kind with two children. The row stands at src, and k right rows at `behind`; what it gives is written
-// at dst: below the row, and where it is the row itself, which is kept, no higher than it stands.
+// at dst, and ends before the row begins.
 ghost use mathlib.Core.Path.{_≡_};
 ghost use Prim.Native.Nat.{_+_, _*_, _≤_, max};
 ghost use lib.ListN.{length, drop, replicate};

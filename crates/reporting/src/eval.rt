@@ -9,7 +9,7 @@ ghost use Rattle.reporting.specs.Evaluation.{columnsAt, boundAt, widthAt
 ghost use Rattle.reporting.specs.Evaluation.{StepRoom, LoopRoom, PlainStep, PlainGiven, NestedStep, NestedGiven};
 use crate::act::act;
 use crate::columns::columns_into;
-use crate::columns::region_at;
+use crate::columns::share_at;
 use crate::columns::tree_part;
 use crate::emit::emit_row;
 use crate::env::inner_env;
@@ -270,8 +270,8 @@ fn nested_at(
     )
 }
 
-// The rows of the tree at a place, at the front of cells. Its region stands there, and its first child's part behind it; a node without a
-// region works in place. Behind the first child's whole part stands the second's.
+// The rows of the tree at a place, at the front of cells. What its node counts stands there, its region or one row, and behind it its
+// first child's part; behind that whole part stands the second child's.
 pub(crate) fn eval(set: &[u8], plan: &[u8], at: usize, cells: &mut [u32], env: &[u32]) -> usize
     requires { ⌜ ReadyAt (now set) (now plan) at (length (now cells)) (length (now env)) ⌝ }
     ensures { λ r. ⌜ TreeGiven (now (set .entry)) (now (plan .entry)) at (now (env .entry)) r (now (cells .exit)) ⌝ }
@@ -284,7 +284,7 @@ pub(crate) fn eval(set: &[u8], plan: &[u8], at: usize, cells: &mut [u32], env: &
     if children == 0 {
         return leaf(set, node, cells);
     }
-    let own = region_at(set, plan, at, node);
+    let own = share_at(set, plan, at, node);
     let left = at + 1;
     let m = eval(set, plan, left, &mut cells[own..], env);
     if children == 1 {

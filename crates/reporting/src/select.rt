@@ -1,11 +1,10 @@
-// Select and Project: row by row. What they give is written at the front, over rows that have been read already, so that the rows may
-// stand there too.
+// Select and Project: row by row. What they give is written at the front, over rows that have been read already.
 ghost use mathlib.Core.Path.{_≡_};
 ghost use Prim.Native.Nat.{_+_, _*_, _≤_};
 ghost use lib.ListN.{length};
 ghost use Rattle.algebra.specs.Plans.{test};
 ghost use Rattle.reading.specs.Tree.{formOf};
-ghost use Rattle.reporting.specs.Written.{Apart, CutWritten, CutRoom, CutMoved};
+ghost use Rattle.reporting.specs.Written.{CutWritten};
 ghost use Rattle.reporting.specs.Evaluation.{SelectGiven, CutsRoom, CutsGiven};
 use crate::env::column;
 use crate::rows::copy_row;
@@ -42,45 +41,21 @@ pub(crate) fn select(
     out
 }
 
-// Writes the row at src, cut to a list of ids, at a place apart from the row.
-fn cut_row(cells: &mut [u32], src: usize, to: usize, ids: &[u8], list: &[u8], env: &[u32])
-    requires { ⌜ (length (now env) ≡ 256) × (src + length (now ids) ≤ length (now cells)) × (to + length (now list) ≤ length (now cells)) ⌝ }
-    requires { ⌜ Apart src (length (now ids)) to (length (now list)) ⌝ }
-    ensures { λ _. ⌜ CutWritten (now (list .entry)) (now (ids .entry)) (now (env .entry)) src to (now (cells .entry)) (now (cells .exit)) ⌝ }
+// Writes the row at src, cut to a list of ids, at dst, where it ends before the row begins.
+fn cut_row(cells: &mut [u32], src: usize, dst: usize, ids: &[u8], list: &[u8], env: &[u32])
+    requires { ⌜ (length (now env) ≡ 256) × (dst + length (now list) ≤ src) × (src + length (now ids) ≤ length (now cells)) ⌝ }
+    ensures { λ _. ⌜ CutWritten (now (list .entry)) (now (ids .entry)) (now (env .entry)) src dst (now (cells .entry)) (now (cells .exit)) ⌝ }
 {
     let w = ids.len();
     let mut j = 0;
     while j < list.len() {
         let cell = column(ids, &cells[src..src + w], env, list[j]);
-        cells[to + j] = cell;
+        cells[dst + j] = cell;
         j += 1;
     }
 }
 
-// The same at dst. Where the cut would overlap the row it is written to `room` first, and then moved down: all of a row is read before it is
-// overwritten.
-fn move_cut(
-    cells: &mut [u32],
-    src: usize,
-    dst: usize,
-    room: usize,
-    ids: &[u8],
-    list: &[u8],
-    env: &[u32],
-)
-    requires { ⌜ (length (now env) ≡ 256) × CutRoom (length (now ids)) (length (now list)) src dst room (length (now cells)) ⌝ }
-    ensures { λ _. ⌜ CutMoved (now (list .entry)) (now (ids .entry)) (now (env .entry)) src dst room (now (cells .entry)) (now (cells .exit)) ⌝ }
-{
-    let n = list.len();
-    if dst + n <= src {
-        cut_row(cells, src, dst, ids, list, env);
-        return;
-    }
-    cut_row(cells, src, room, ids, list, env);
-    copy_row(cells, room, dst, n);
-}
-
-// Each of m rows at `own` cut to a list of ids, at the front. Behind the rows there is room for one more, where it is needed.
+// Each of m rows at `own` cut to a list of ids, at the front.
 pub(crate) fn project(
     cells: &mut [u32],
     own: usize,
@@ -94,12 +69,11 @@ pub(crate) fn project(
 {
     let w = ids.len();
     let n = list.len();
-    let room = own + m * w;
     let mut i = 0;
     let mut src = own;
     let mut dst = 0;
     while i < m {
-        move_cut(cells, src, dst, room, ids, list, env);
+        cut_row(cells, src, dst, ids, list, env);
         i += 1;
         src += w;
         dst += n;

@@ -10,6 +10,7 @@ use Rattle.reading.specs.Tree.{operatorOf, nodeList}
 use Rattle.reporting.specs.Rows.{chunk, envOf, Gives, SortedBy, actedColumns}
 use Rattle.reporting.specs.Evaluation.{CutsRoom}
 use Rattle.reporting.proofs.Acts.{select-acts, project-acts}
+use Rattle.reporting.proofs.Building.{cuts-inside}
 use Rattle.reporting.proofs.ListActs.{distinct-kind, group-columns, sort-columns, group-region, sort-region, list-columns, group-acts, sort-acts, distinct-acts}
 use borrow.Author.Needs.{needs}
 use Rattle.reporting.proofs.act.act.Statement.{statement}
@@ -48,7 +49,7 @@ group-requires c κs =
     let a = c .before .before .before .before .before .before .args in
     let p = c .before .before .before .before .before .before .pre in
     let e : a .m * length (actedColumns (operatorOf (a .node)) (a .ids .now)) ≡ a .m * 2 = ap (λ (l : List ℕ). a .m * length l) (group-columns (a .node) (a .ids .now) (c .before .if2 .taken)) in
-    ((c .before .if2 .taken, p .0 .1, p .0 .2), (omega (arith, rw (group-region (a .node) (a .ids .now) (c .before .if2 .taken)) at (p .1 .region)), p .1 .cuts .inside))
+    ((c .before .if2 .taken, p .0 .1, p .0 .2), (omega (arith, rw (group-region (a .node) (a .ids .now) (c .before .if2 .taken)) at (p .1 .share)), p .1 .cuts .inside))
 
 -- src/act.rt:35:9
 same-length-2 : tie.Need-same-length-2
@@ -85,7 +86,7 @@ sort-by-requires c κs =
     let p = c .before .before .before .before .before .before .before .before .before .before .before .before .pre in
     let l = c .before .before .before .before .before .list-length in
     let e = ap (λ (x : List ℕ). a .m * length x) (sort-columns (a .node) (a .ids .now) (c .before .before .before .before .if3 .taken)) in
-    ((p .0 .3, omega (arith, ap length (part (c .before .before .before .before .before)), l .ensures .0, l .ensures .1)), (omega (arith, rw (sort-region (a .node) (a .ids .now) (c .before .before .before .before .if3 .taken)) at (p .1 .region)), p .1 .cuts .inside))
+    ((p .0 .3, omega (arith, ap length (part (c .before .before .before .before .before)), l .ensures .0, l .ensures .1)), (omega (arith, rw (sort-region (a .node) (a .ids .now) (c .before .before .before .before .if3 .taken)) at (p .1 .share)), p .1 .cuts .inside))
 
 -- src/act.rt:40:9
 same-length-3 : tie.Need-same-length-3
@@ -140,7 +141,7 @@ distinct-front-requires c κs =
     let l = c .before .before .before .before .before .before .before .before .before .list-length in
     let p = c .before .before .before .before .project in
     let n : a .m * l .result ≡ a .m * length (actedColumns (operatorOf (a .node)) (a .ids .now)) = ap (λ (x : ℕ). a .m * x) (l .ensures .1 ∙ ap length (sym (columns (c .before .before .before .before .before .before .before .before)))) in
-    omega (arith, mul-le-mul-right (l .result) (p .ensures .few), q .cuts .ends, q .cuts .inside, p .kept .0)
+    omega (arith, mul-le-mul-right (l .result) (p .ensures .few), cuts-inside (a .m) (q .cuts), p .kept .0)
 
 -- src/act.rt:17:1
 same-length-5 : tie.Need-same-length-5

@@ -39,7 +39,7 @@ columns-into-below t =
     (falls 3 columns-into-kinds.ps _<_ μ-columns-into t)
     columns-into.Pre
 
--- src/columns.rt:128:8
+-- src/columns.rt:126:8
 columns-into-nodes-of-requires : (t : ℕ) → columns-into-lts.Need-nodes-of-requires (
   nodes-of-reads.Asked,
   nodes-of-reads.Learnt,
@@ -56,7 +56,7 @@ columns-into-nodes-of-requires : (t : ℕ) → columns-into-lts.Need-nodes-of-re
 ) (columns-into-at t) columns-into.Post
 columns-into-nodes-of-requires t c κs = tt
 
--- src/columns.rt:129:9
+-- src/columns.rt:127:9
 columns-into-returns : (t : ℕ) → columns-into-lts.Need-returns (
   nodes-of-reads.Asked,
   nodes-of-reads.Learnt,
@@ -73,7 +73,7 @@ columns-into-returns : (t : ℕ) → columns-into-lts.Need-returns (
 ) (columns-into-at t) columns-into.Post
 columns-into-returns t c = let a = c .before .before .before .before .before .args in front-past (tablesOf (a .set .now)) (a .plan .now) (a .i) (a .ids .now) (omega arith)
 
--- src/columns.rt:131:9
+-- src/columns.rt:129:9
 columns-into-node-at-requires : (t : ℕ) → columns-into-lts.Need-node-at-requires (
   nodes-of-reads.Asked,
   nodes-of-reads.Learnt,
@@ -90,7 +90,7 @@ columns-into-node-at-requires : (t : ℕ) → columns-into-lts.Need-node-at-requ
 ) (columns-into-at t) columns-into.Post
 columns-into-node-at-requires t c κs = tt
 
--- src/columns.rt:132:9
+-- src/columns.rt:130:9
 columns-into-columns-way-requires : (t : ℕ) → columns-into-lts.Need-columns-way-requires (
   nodes-of-reads.Asked,
   nodes-of-reads.Learnt,
@@ -107,7 +107,7 @@ columns-into-columns-way-requires : (t : ℕ) → columns-into-lts.Need-columns-
 ) (columns-into-at t) columns-into.Post
 columns-into-columns-way-requires t c κs = tt
 
--- src/columns.rt:134:9
+-- src/columns.rt:132:9
 columns-into-own-ids-requires : (t : ℕ) → columns-into-lts.Need-own-ids-requires (
   nodes-of-reads.Asked,
   nodes-of-reads.Learnt,
@@ -127,7 +127,7 @@ columns-into-own-ids-requires t c κs =
     let r : ReadAt (a .plan .now) (a .i) (c .before .before .before .node-at .result) (c .before .before .columns-way .result) = record { inside = omega arith; is = c .before .before .before .node-at .ensures; made-so = c .before .before .columns-way .ensures } in
     ((sym (c .before .before .columns-way .ensures) ∙ c .before .if2 .taken, own-small (tablesOf (a .set .now)) r (c .before .before .before .before .before .before .before .before .before .pre .1 .0)), omega (arith, ap length (own-columns (tablesOf (a .set .now)) r (c .before .if2 .taken)), c .before .before .before .before .before .before .before .before .before .pre .1 .1))
 
--- src/columns.rt:134:9
+-- src/columns.rt:132:9
 columns-into-same-length : (t : ℕ) → columns-into-lts.Need-same-length (
   nodes-of-reads.Asked,
   nodes-of-reads.Learnt,
@@ -144,7 +144,7 @@ columns-into-same-length : (t : ℕ) → columns-into-lts.Need-same-length (
 ) (columns-into-at t) columns-into.Post
 columns-into-same-length t c = search needs
 
--- src/columns.rt:134:9
+-- src/columns.rt:132:9
 columns-into-returns-2 : (t : ℕ) → columns-into-lts.Need-returns-2 (
   nodes-of-reads.Asked,
   nodes-of-reads.Learnt,
@@ -165,7 +165,7 @@ columns-into-returns-2 t c =
     let e = own-columns (tablesOf (a .set .now)) r (c .before .before .before .before .if2 .taken) in
     (c .before .before .own-ids .ensures .0 ∙ ap length (sym e), c .before .before .own-ids .ensures .1 ∙ sym e)
 
--- src/columns.rt:136:37
+-- src/columns.rt:134:37
 columns-into-add-columns-into : (t : ℕ) → columns-into-lts.Need-add-columns-into (
   nodes-of-reads.Asked,
   nodes-of-reads.Learnt,
@@ -182,7 +182,7 @@ columns-into-add-columns-into : (t : ℕ) → columns-into-lts.Need-add-columns-
 ) (columns-into-at t) columns-into.Post
 columns-into-add-columns-into t c = omega arith
 
--- src/columns.rt:136:9
+-- src/columns.rt:134:9
 columns-into-columns-into-requires : (t : ℕ) → columns-into-lts.Need-columns-into-requires (
   nodes-of-reads.Asked,
   nodes-of-reads.Learnt,
@@ -202,7 +202,7 @@ columns-into-columns-into-requires t c κs =
     let r : ReadAt (a .plan .now) (a .i) (c .before .before .before .node-at .result) (c .before .before .columns-way .result) = record { inside = omega arith; is = c .before .before .before .node-at .ensures; made-so = c .before .before .columns-way .ensures } in
     (omega arith, (first-sound (tablesOf (a .set .now)) r (c .before .if2 .left) (c .before .before .before .before .before .before .before .before .before .pre .1 .0), omega (arith, first-fits (tablesOf (a .set .now)) r (c .before .if2 .left), c .before .before .before .before .before .before .before .before .before .pre .1 .1)))
 
--- src/columns.rt:138:32
+-- src/columns.rt:136:32
 columns-into-add-tree-end : (t : ℕ) → columns-into-lts.Need-add-tree-end (
   nodes-of-reads.Asked,
   nodes-of-reads.Learnt,
@@ -219,7 +219,7 @@ columns-into-add-tree-end : (t : ℕ) → columns-into-lts.Need-add-tree-end (
 ) (columns-into-at t) columns-into.Post
 columns-into-add-tree-end t c = omega arith
 
--- src/columns.rt:138:13
+-- src/columns.rt:136:13
 columns-into-tree-end-requires : (t : ℕ) → columns-into-lts.Need-tree-end-requires (
   nodes-of-reads.Asked,
   nodes-of-reads.Learnt,
@@ -236,7 +236,7 @@ columns-into-tree-end-requires : (t : ℕ) → columns-into-lts.Need-tree-end-re
 ) (columns-into-at t) columns-into.Post
 columns-into-tree-end-requires t c κs = tt
 
--- src/columns.rt:139:47
+-- src/columns.rt:137:47
 columns-into-sub-columns-into : (t : ℕ) → columns-into-lts.Need-sub-columns-into (
   nodes-of-reads.Asked,
   nodes-of-reads.Learnt,
@@ -256,7 +256,7 @@ columns-into-sub-columns-into t c =
     let r : ReadAt (a .plan .now) (a .i) (c .before .before .before .before .before .before .before .before .node-at .result) (c .before .before .before .before .before .before .before .columns-way .result) = record { inside = omega arith; is = c .before .before .before .before .before .before .before .before .node-at .ensures; made-so = c .before .before .before .before .before .before .before .columns-way .ensures } in
     omega (arith, first-fits (tablesOf (a .set .now)) r (c .before .before .before .before .before .before .if2 .left), c .before .before .before .before .before .before .before .before .before .before .before .before .before .before .pre .1 .1, c .before .before .before .before .columns-into .ensures .0, c .before .before .before .before .columns-into .kept .1 .1 .1 .0)
 
--- src/columns.rt:139:47
+-- src/columns.rt:137:47
 columns-into-part-columns-into-start : (t : ℕ) → columns-into-lts.Need-part-columns-into-start (
   nodes-of-reads.Asked,
   nodes-of-reads.Learnt,
@@ -276,7 +276,7 @@ columns-into-part-columns-into-start t c =
     let r : ReadAt (a .plan .now) (a .i) (c .before .before .before .before .before .before .before .before .node-at .result) (c .before .before .before .before .before .before .before .columns-way .result) = record { inside = omega arith; is = c .before .before .before .before .before .before .before .before .node-at .ensures; made-so = c .before .before .before .before .before .before .before .columns-way .ensures } in
     omega (arith, first-fits (tablesOf (a .set .now)) r (c .before .before .before .before .before .before .if2 .left), c .before .before .before .before .before .before .before .before .before .before .before .before .before .before .pre .1 .1, c .before .before .before .before .columns-into .ensures .0, c .before .before .before .before .columns-into .kept .1 .1 .1 .0)
 
--- src/columns.rt:139:47
+-- src/columns.rt:137:47
 columns-into-part-columns-into-end : (t : ℕ) → columns-into-lts.Need-part-columns-into-end (
   nodes-of-reads.Asked,
   nodes-of-reads.Learnt,
@@ -296,7 +296,7 @@ columns-into-part-columns-into-end t c =
     let r : ReadAt (a .plan .now) (a .i) (c .before .before .before .before .before .before .before .before .node-at .result) (c .before .before .before .before .before .before .before .columns-way .result) = record { inside = omega arith; is = c .before .before .before .before .before .before .before .before .node-at .ensures; made-so = c .before .before .before .before .before .before .before .columns-way .ensures } in
     omega (arith, first-fits (tablesOf (a .set .now)) r (c .before .before .before .before .before .before .if2 .left), c .before .before .before .before .before .before .before .before .before .before .before .before .before .before .pre .1 .1, c .before .before .before .before .columns-into .ensures .0, c .before .before .before .before .columns-into .kept .1 .1 .1 .0)
 
--- src/columns.rt:139:20
+-- src/columns.rt:137:20
 columns-into-columns-into-requires-2 : (t : ℕ) → columns-into-lts.Need-columns-into-requires-2 (
   nodes-of-reads.Asked,
   nodes-of-reads.Learnt,
@@ -318,7 +318,7 @@ columns-into-columns-into-requires-2 t c κs =
     let j = c .before .tree-end in
     (omega (arith, j .ensures), (second-sound T r (c .before .before .if3 .taken) (j .result) (j .ensures) (c .before .before .before .before .before .before .before .before .before .before .before .before .before .before .before .pre .1 .0), rw (length-take, length-drop) (omega (arith, both-fits T r (c .before .before .if3 .taken) (j .result) (j .ensures), c .before .before .before .before .before .before .before .before .before .before .before .before .before .before .before .pre .1 .1, c .before .before .before .before .before .columns-into .ensures .0, c .before .before .before .before .before .columns-into .kept .1 .1 .1 .0))))
 
--- src/columns.rt:139:16
+-- src/columns.rt:137:16
 columns-into-add-result : (t : ℕ) → columns-into-lts.Need-add-result (
   nodes-of-reads.Asked,
   nodes-of-reads.Learnt,
@@ -340,7 +340,7 @@ columns-into-add-result t c =
     let j = c .before .before .before .before .tree-end in
     omega (arith, both-fits T r (c .before .before .before .before .before .if3 .taken) (j .result) (j .ensures), sound-width (c .before .before .before .before .before .before .before .before .before .before .before .before .before .before .before .before .before .before .pre .1 .0), c .before .before .before .before .before .before .before .before .columns-into .ensures .0, c .before .before .columns-into2 .ensures .0)
 
--- src/columns.rt:139:9
+-- src/columns.rt:137:9
 columns-into-same-length-2 : (t : ℕ) → columns-into-lts.Need-same-length-2 (
   nodes-of-reads.Asked,
   nodes-of-reads.Learnt,
@@ -357,7 +357,7 @@ columns-into-same-length-2 : (t : ℕ) → columns-into-lts.Need-same-length-2 (
 ) (columns-into-at t) columns-into.Post
 columns-into-same-length-2 t c = same-len-mid (c .before .before .before .before .before .before .before .before .columns-into .result) (length (c .before .before .before .before .before .before .before .before .columns-into .last .1 .1 .1 .0) - c .before .before .before .before .before .before .before .before .columns-into .result) (c .before .before .before .before .before .before .before .before .columns-into .last .1 .1 .1 .0) (c .before .before .columns-into2 .last .1 .1 .1 .0) (c .before .before .columns-into2 .kept .1 .1 .1 .0) ∙ c .before .before .before .before .before .before .before .before .columns-into .kept .1 .1 .1 .0
 
--- src/columns.rt:139:9
+-- src/columns.rt:137:9
 columns-into-returns-3 : (t : ℕ) → columns-into-lts.Need-returns-3 (
   nodes-of-reads.Asked,
   nodes-of-reads.Learnt,
@@ -385,7 +385,7 @@ columns-into-returns-3 t c =
     let h : w ≤ length ids = omega (arith, first-fits T r (c .before .before .before .before .before .before .before .before .before .before .if2 .left), c .before .before .before .before .before .before .before .before .before .before .before .before .before .before .before .before .before .before .pre .1 .1, first .ensures .0, first .kept .1 .1 .1 .0) in
     front-both T r (c .before .before .before .before .before .if3 .taken) (j .result) (j .ensures) w (second .result) ids more (putMid w (length ids - w) ids more) (first .ensures) (second .ensures) (take-put w (length ids - w) ids more h) (lent-tail w ids more h)
 
--- src/columns.rt:142:9
+-- src/columns.rt:140:9
 columns-into-slice-write-ids : (t : ℕ) → columns-into-lts.Need-slice-write-ids (
   nodes-of-reads.Asked,
   nodes-of-reads.Learnt,
@@ -406,7 +406,7 @@ columns-into-slice-write-ids t c =
     let r : ReadAt (a .plan .now) (a .i) (c .before .before .before .before .before .before .before .before .node-at .result) (c .before .before .before .before .before .before .before .columns-way .result) = record { inside = omega arith; is = c .before .before .before .before .before .before .before .before .node-at .ensures; made-so = c .before .before .before .before .before .before .before .columns-way .ensures } in
     omega (arith, more-fits T r (c .if4 .taken), sound-width (c .before .before .before .before .before .before .before .before .before .before .before .before .before .before .pre .1 .0), c .before .before .before .before .before .before .before .before .before .before .before .before .before .before .pre .1 .1, c .before .before .before .before .columns-into .ensures .0, c .before .before .before .before .columns-into .kept .1 .1 .1 .0)
 
--- src/columns.rt:143:16
+-- src/columns.rt:141:16
 columns-into-add-result-2 : (t : ℕ) → columns-into-lts.Need-add-result-2 (
   nodes-of-reads.Asked,
   nodes-of-reads.Learnt,
@@ -427,7 +427,7 @@ columns-into-add-result-2 t c =
     let r : ReadAt (a .plan .now) (a .i) (c .before .before .before .before .before .before .before .before .node-at .result) (c .before .before .before .before .before .before .before .columns-way .result) = record { inside = omega arith; is = c .before .before .before .before .before .before .before .before .node-at .ensures; made-so = c .before .before .before .before .before .before .before .columns-way .ensures } in
     omega (arith, more-fits T r (c .if4 .taken), sound-width (c .before .before .before .before .before .before .before .before .before .before .before .before .before .before .pre .1 .0), c .before .before .before .before .before .before .before .before .before .before .before .before .before .before .pre .1 .1, c .before .before .before .before .columns-into .ensures .0, c .before .before .before .before .columns-into .kept .1 .1 .1 .0)
 
--- src/columns.rt:143:9
+-- src/columns.rt:141:9
 columns-into-same-length-3 : (t : ℕ) → columns-into-lts.Need-same-length-3 (
   nodes-of-reads.Asked,
   nodes-of-reads.Learnt,
@@ -444,7 +444,7 @@ columns-into-same-length-3 : (t : ℕ) → columns-into-lts.Need-same-length-3 (
 ) (columns-into-at t) columns-into.Post
 columns-into-same-length-3 t c = simp length-set (c .before .before .before .before .columns-into .kept .1 .1 .1 .0)
 
--- src/columns.rt:143:9
+-- src/columns.rt:141:9
 columns-into-returns-4 : (t : ℕ) → columns-into-lts.Need-returns-4 (
   nodes-of-reads.Asked,
   nodes-of-reads.Learnt,
@@ -466,7 +466,7 @@ columns-into-returns-4 t c =
     let first = c .before .before .before .before .columns-into in
     front-more T r (c .if4 .taken) (first .result) (first .last .1 .1 .1 .0) (first .ensures) (omega (arith, more-fits T r (c .if4 .taken), c .before .before .before .before .before .before .before .before .before .before .before .before .before .before .pre .1 .1, first .ensures .0, first .kept .1 .1 .1 .0))
 
--- src/columns.rt:124:1
+-- src/columns.rt:122:1
 columns-into-same-length-4 : (t : ℕ) → columns-into-lts.Need-same-length-4 (
   nodes-of-reads.Asked,
   nodes-of-reads.Learnt,
@@ -483,7 +483,7 @@ columns-into-same-length-4 : (t : ℕ) → columns-into-lts.Need-same-length-4 (
 ) (columns-into-at t) columns-into.Post
 columns-into-same-length-4 t c = search needs
 
--- src/columns.rt:124:1
+-- src/columns.rt:122:1
 columns-into-returns-5 : (t : ℕ) → columns-into-lts.Need-returns-5 (
   nodes-of-reads.Asked,
   nodes-of-reads.Learnt,

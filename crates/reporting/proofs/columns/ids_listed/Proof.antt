@@ -9,33 +9,33 @@ use borrow.Author.Needs.{needs}
 use Rattle.reporting.proofs.columns.ids_listed.Statement.{statement}
 use Rattle.reporting.proofs.columns.ids_listed.Tie as tie
 
--- src/columns.rt:77:9
+-- src/columns.rt:75:9
 list-length-requires : tie.Need-list-length-requires
 list-length-requires c κs = search needs
 
--- src/columns.rt:78:19
+-- src/columns.rt:76:19
 sub-copy-ids : tie.Need-sub-copy-ids
 sub-copy-ids c = search needs
 
--- src/columns.rt:78:19
+-- src/columns.rt:76:19
 part-copy-ids-start : tie.Need-part-copy-ids-start
 part-copy-ids-start c = search needs
 
--- src/columns.rt:78:19
+-- src/columns.rt:76:19
 part-copy-ids-end : tie.Need-part-copy-ids-end
 part-copy-ids-end c =
     let g : length (c .before .before .before .before .before .args .node .list) ≡ 7 = search needs in
     omega (arith, c .before .before .list-length .ensures .0)
 
--- src/columns.rt:78:5
+-- src/columns.rt:76:5
 copy-ids-requires : tie.Need-copy-ids-requires
 copy-ids-requires c κs = search needs
 
--- src/columns.rt:72:1
+-- src/columns.rt:70:1
 same-length : tie.Need-same-length
 same-length c = search needs
 
--- src/columns.rt:72:1
+-- src/columns.rt:70:1
 returns : tie.Need-returns
 returns c =
     let node = c .before .before .before .before .before .before .before .before .before .args .node in

@@ -6,11 +6,11 @@ use borrow.Author.Needs.{needs}
 use Rattle.reporting.proofs.columns.tree_part.Statement.{statement}
 use Rattle.reporting.proofs.columns.tree_part.Tie as tie
 
--- src/columns.rt:41:5
+-- src/columns.rt:39:5
 part-at-requires : tie.Need-part-at-requires
 part-at-requires c κs = search needs
 
--- src/columns.rt:37:1
+-- src/columns.rt:35:1
 returns : tie.Need-returns
 returns c =
     let a = c .before .before .before .args in

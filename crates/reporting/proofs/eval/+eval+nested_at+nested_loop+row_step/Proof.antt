@@ -28,7 +28,7 @@ pub +eval+nested-at+nested-loop+row-step-spec : {M : Type 1} → statement M
     (Eval.leaf-requires t)
     (Eval.same-length t)
     (Eval.returns-2 t)
-    (Eval.region-at-requires t)
+    (Eval.share-at-requires t)
     (Eval.add-left t)
     (Eval.mul-eval t)
     (Eval.sub-eval t)

@@ -33,7 +33,7 @@ in-row c =
     let op = operatorOf (a .node) in
     let h = c .loop-test .taken in (
       record {
-        below = turn-below (l .inv .0) h op (λ e. keeps-rows op (p .0 .0) e (a .ids .now) (a .jds .now) (a .k)) (p .1 .1 .region);
+        below = turn-below (l .inv .0) h op (λ e. keeps-rows op (p .0 .0) e (a .ids .now) (a .jds .now) (a .k)) (p .1 .1 .share);
         apart = omega (arith, building-row (l .inv .0) h, p .1 .1 .apart);
       },
       omega (arith, l .inv .0 .few, turns (a .m) (emittedMost op (a .k)) (l .i) h, p .1 .0 .1),
@@ -48,7 +48,7 @@ grows c =
     let op = operatorOf (a .node) in
     let s = c .plain-step in
     let h = c .before .before .loop-test .taken in
-    let ends = turn-ends (l .inv .0) h op (λ e. keeps-rows op (p .0 .0) e (a .ids .now) (a .jds .now) (a .k)) (p .1 .1 .region) (s .result) (s .ensures .gives .few) in
+    let ends = turn-ends (l .inv .0) h op (λ e. keeps-rows op (p .0 .0) e (a .ids .now) (a .jds .now) (a .k)) (p .1 .1 .share) (s .result) (s .ensures .gives .few) in
     omega (arith, ends, in-row (c .before .before) .0 .apart, ap (λ (x : ℕ). s .result * x) (c .before .before .before .before .emitted-width .ensures))
 
 -- src/eval.rt:113:9

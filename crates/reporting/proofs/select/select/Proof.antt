@@ -26,61 +26,61 @@ abbrev μ-loop : tie.MeasureT-loop
 in-row : (c : tie.In-loop Inv-loop μ-loop) → (c .before .loop .src + length (c .before .before .before .before .before .args .ids .now) ≤ length (c .before .loop .cells)) × (c .before .loop .dst ≤ c .before .loop .src)
 in-row c = let p = c .before .loop .inv .0 in omega (arith, building-row p (c .loop-test .taken), kept-below p)
 
--- src/select.rt:33:5
+-- src/select.rt:32:5
 loop-holds : tie.Need-loop-holds Inv-loop μ-loop
 loop-holds c =
     let a = c .before .before .before .args in
     (building-start (a .cells .now) (sym (filter-kept (λ q. holds (test (a .negated) (formOf (a .form))) (bind (a .ids .now) q (envOf (a .env .now)))) (chunk (a .m) (length (a .ids .now)) (drop (a .own) (a .cells .now))))), refl)
 
--- src/select.rt:34:55
+-- src/select.rt:33:55
 add-test-holds : tie.Need-add-test-holds Inv-loop μ-loop
 add-test-holds c = omega (arith, in-row c .0)
 
--- src/select.rt:34:43
+-- src/select.rt:33:43
 mul-test-holds : tie.Need-mul-test-holds Inv-loop μ-loop
 mul-test-holds c = omega (arith, in-row c .0)
 
--- src/select.rt:34:43
+-- src/select.rt:33:43
 sub-test-holds : tie.Need-sub-test-holds Inv-loop μ-loop
 sub-test-holds c = omega arith
 
--- src/select.rt:34:43
+-- src/select.rt:33:43
 part-test-holds-start : tie.Need-part-test-holds-start Inv-loop μ-loop
 part-test-holds-start c = omega (arith, in-row (c .before) .0)
 
--- src/select.rt:34:43
+-- src/select.rt:33:43
 part-test-holds-end : tie.Need-part-test-holds-end Inv-loop μ-loop
 part-test-holds-end c = omega (arith, in-row (c .before) .0)
 
--- src/select.rt:34:12
+-- src/select.rt:33:12
 test-holds-requires : tie.Need-test-holds-requires Inv-loop μ-loop
 test-holds-requires c κs = let a = c .before .before .before .before .before .before .before .args in omega (arith, part-length (c .before .before .before .loop .src) (length (a .ids .now)) (c .before .before .before .loop .cells) (in-row (c .before .before) .0))
 
--- src/select.rt:35:13
+-- src/select.rt:34:13
 copy-row-requires : tie.Need-copy-row-requires Inv-loop μ-loop
 copy-row-requires c κs = omega (arith, in-row (c .before .before .before .before .before) .0, in-row (c .before .before .before .before .before) .1)
 
--- src/select.rt:36:13
+-- src/select.rt:35:13
 add-out : tie.Need-add-out Inv-loop μ-loop
 add-out c = omega (arith, c .before .before .before .before .before .before .before .before, c .before .before .before .before .before .before .before .before .before .loop .inv .0 .few)
 
--- src/select.rt:37:13
+-- src/select.rt:36:13
 add-dst : tie.Need-add-dst Inv-loop μ-loop
 add-dst c = omega (arith, in-row (c .before .before .before .before .before .before .before .before) .0, in-row (c .before .before .before .before .before .before .before .before) .1, c .before .before .before .before .before .before .before .before)
 
--- src/select.rt:39:9
+-- src/select.rt:38:9
 add-i : tie.Need-add-i Inv-loop μ-loop
 add-i c = omega arith
 
--- src/select.rt:40:9
+-- src/select.rt:39:9
 add-src : tie.Need-add-src Inv-loop μ-loop
 add-src c = omega (arith, in-row (c .before .before .before .before) .0)
 
--- src/select.rt:33:5
+-- src/select.rt:32:5
 loop-less : tie.Need-loop-less Inv-loop μ-loop
 loop-less c = omega arith
 
--- src/select.rt:33:5
+-- src/select.rt:32:5
 loop-again : tie.Need-loop-again Inv-loop μ-loop
 loop-again c =
     let a = c .before .before .before .before .before .before .before .before .before .args in
@@ -98,11 +98,11 @@ loop-again c =
     (λ v. (skipped-turn p h (c .if1 .cells) (c .if1 .out) (c .if1 .dst) (ap (λ b. cond b (row ∷ []) []) (met ∙ v .0 .left)) (v .1) (v .2) (v .3), ap length (v .1) ∙ l .inv .1))
     (c .if1 .came)
 
--- src/select.rt:16:1
+-- src/select.rt:15:1
 same-length : tie.Need-same-length Inv-loop μ-loop
 same-length c = c .before .loop .inv .1
 
--- src/select.rt:16:1
+-- src/select.rt:15:1
 returns : tie.Need-returns Inv-loop μ-loop
 returns c = kept-done (c .before .loop .inv .0) (c .loop-test .left)
 

@@ -25,7 +25,7 @@ use Rattle.reading.proofs.plan.node_at.Reads as node-at-reads
 use Rattle.reading.proofs.tree.nodes_of.Reads as nodes-of-reads
 use Rattle.reading.proofs.tree.tree_end.Reads as tree-end-reads
 use Rattle.reporting.proofs.columns.columns_into.Reads as columns-into-reads
-use Rattle.reporting.proofs.columns.region_at.Reads as region-at-reads
+use Rattle.reporting.proofs.columns.share_at.Reads as share-at-reads
 use Rattle.reporting.proofs.emit.emit_row.Reads as emit-row-reads
 use Rattle.reporting.proofs.env.inner_env.Reads as inner-env-reads
 use Rattle.reporting.proofs.eval.binary_at.Reads as binary-at-reads
@@ -46,13 +46,13 @@ first : (t : ℕ) (c : eval-lts.Else2 (eval-calls t) (eval-at t) eval.Post) → 
 first t c = let a = c .before .before .before .before .before .before .before .before .before .args in first-at (tablesOf (a .set .now)) (a .plan .now) (a .at) (c .before .before .node-at .result) (here t (c .before .before .before)) (c .before .before .node-at .ensures) (λ e. c .if2 .left (kinds t (c .before) ∙ e))
 
 -- after the first child: the whole has its length, and the child's rows lie in the part
-back : (t : ℕ) (c : eval-lts.After-eval (eval-calls t) (eval-at t) eval.Post) → let a = c .before .before .before .before .before .before .before .before .before .before .before .before .args in let own = c .before .before .region-at .result in let last = c .eval .last .1 .1 .1 .0 in (length (putMid own (length (a .cells .now) - own) (a .cells .now) last) ≡ length (a .cells .now)) × Kid (tablesOf (a .set .now)) (planAt (a .plan .now) (a .at + 1)) (envOf (a .env .now)) (c .eval .result) last
+back : (t : ℕ) (c : eval-lts.After-eval (eval-calls t) (eval-at t) eval.Post) → let a = c .before .before .before .before .before .before .before .before .before .before .before .before .args in let own = c .before .before .share-at .result in let last = c .eval .last .1 .1 .1 .0 in (length (putMid own (length (a .cells .now) - own) (a .cells .now) last) ≡ length (a .cells .now)) × Kid (tablesOf (a .set .now)) (planAt (a .plan .now) (a .at + 1)) (envOf (a .env .now)) (c .eval .result) last
 back t c =
     let a = c .before .before .before .before .before .before .before .before .before .before .before .before .args in
-    let own = c .before .before .region-at .result in
+    let own = c .before .before .share-at .result in
     let last = c .eval .last .1 .1 .1 .0 in
     let len : length last ≡ length (a .cells .now) - own = c .eval .kept .1 .1 .1 .0 ∙ tail-length own (a .cells .now) in
-    (same-len-mid own (length (a .cells .now) - own) (a .cells .now) last (c .eval .kept .1 .1 .1 .0), kid-of (child-ready (c .before .before .before .before .before .before .before .before .before .before .before .before .pre .1) (first t (c .before .before .before)) (c .before .before .region-at .ensures .0) (length last) len) (c .eval .ensures))
+    (same-len-mid own (length (a .cells .now) - own) (a .cells .now) last (c .eval .kept .1 .1 .1 .0), kid-of (child-ready (c .before .before .before .before .before .before .before .before .before .before .before .before .pre .1) (first t (c .before .before .before)) (c .before .before .share-at .ensures .0) (length last) len) (c .eval .ensures))
 
 -- it is the only one
 only : (t : ℕ) (c : eval-lts.Then3 (eval-calls t) (eval-at t) eval.Post) → let a = c .before .before .before .before .before .before .before .before .before .before .before .before .before .before .before .args in Single (tablesOf (a .set .now)) (operatorOf (c .before .before .before .before .before .before .before .before .node-at .result)) (planAt (a .plan .now) (a .at)) (planAt (a .plan .now) (a .at + 1))
@@ -71,27 +71,27 @@ both t c =
     (double-at T (a .plan .now) (a .at) node (here t (c .before .before .before .before .before .before .before .before .before .before)) (c .before .before .before .before .before .before .before .before .before .node-at .ensures) (pair t (c .before)))
 
 -- the second child's part starts behind the first's, within the whole
-behind-at : (t : ℕ) (c : eval-lts.After-tree-part (eval-calls t) (eval-at t) eval.Post) → let a = c .before .before .before .before .before .before .before .before .before .before .before .before .before .before .before .before .before .args in c .before .before .before .before .before .before .before .region-at .result + c .tree-part .result ≡ c .before .before .before .before .before .before .before .region-at .result + partAt (a .set .now) (a .plan .now) (a .at + 1)
-behind-at t c = ap (λ (x : ℕ). c .before .before .before .before .before .before .before .region-at .result + x) (c .tree-part .ensures)
+behind-at : (t : ℕ) (c : eval-lts.After-tree-part (eval-calls t) (eval-at t) eval.Post) → let a = c .before .before .before .before .before .before .before .before .before .before .before .before .before .before .before .before .before .args in c .before .before .before .before .before .before .before .share-at .result + c .tree-part .result ≡ c .before .before .before .before .before .before .before .share-at .result + partAt (a .set .now) (a .plan .now) (a .at + 1)
+behind-at t c = ap (λ (x : ℕ). c .before .before .before .before .before .before .before .share-at .result + x) (c .tree-part .ensures)
 
-within : (t : ℕ) (c : eval-lts.After-tree-part (eval-calls t) (eval-at t) eval.Post) → c .before .before .before .before .before .before .before .region-at .result + c .tree-part .result ≤ length (c .before .before .before .before .before .before .before .before .before .before .before .before .before .before .before .before .before .args .cells .now)
-within t c = behind-fits (both t (c .before)) (c .before .before .before .before .before .before .before .before .before .before .before .before .before .before .before .before .before .pre .1) (first t (c .before .before .before .before .before .before .before .before)) (c .before .before .before .before .before .before .before .region-at .ensures .0) (behind-at t c)
+within : (t : ℕ) (c : eval-lts.After-tree-part (eval-calls t) (eval-at t) eval.Post) → c .before .before .before .before .before .before .before .share-at .result + c .tree-part .result ≤ length (c .before .before .before .before .before .before .before .before .before .before .before .before .before .before .before .before .before .args .cells .now)
+within t c = behind-fits (both t (c .before)) (c .before .before .before .before .before .before .before .before .before .before .before .before .before .before .before .before .before .pre .1) (first t (c .before .before .before .before .before .before .before .before)) (c .before .before .before .before .before .before .before .share-at .ensures .0) (behind-at t c)
 
-beyond : (t : ℕ) (c : eval-lts.After-tree-part (eval-calls t) (eval-at t) eval.Post) → let a = c .before .before .before .before .before .before .before .before .before .before .before .before .before .before .before .before .before .args in let own = c .before .before .before .before .before .before .before .region-at .result in own + c .tree-part .result ≤ length (putMid own (length (a .cells .now) - own) (a .cells .now) (c .before .before .before .before .before .eval .last .1 .1 .1 .0))
+beyond : (t : ℕ) (c : eval-lts.After-tree-part (eval-calls t) (eval-at t) eval.Post) → let a = c .before .before .before .before .before .before .before .before .before .before .before .before .before .before .before .before .before .args in let own = c .before .before .before .before .before .before .before .share-at .result in own + c .tree-part .result ≤ length (putMid own (length (a .cells .now) - own) (a .cells .now) (c .before .before .before .before .before .eval .last .1 .1 .1 .0))
 beyond t c = omega (arith, within t c, back t (c .before .before .before .before .before) .0)
 
 -- after the second child
-back₂ : (t : ℕ) (c : eval-lts.After-eval2 (eval-calls t) (eval-at t) eval.Post) → let a = c .before .before .before .before .before .before .before .before .before .before .before .before .before .before .before .before .before .before .before .before .before .args in let own = c .before .before .before .before .before .before .before .before .before .before .before .region-at .result in let cells = putMid own (length (a .cells .now) - own) (a .cells .now) (c .before .before .before .before .before .before .before .before .before .eval .last .1 .1 .1 .0) in let behind = own + c .before .before .before .before .tree-part .result in let last = c .eval2 .last .1 .1 .1 .0 in (length (putMid behind (length cells - behind) cells last) ≡ length (a .cells .now)) × Kid (tablesOf (a .set .now)) (planAt (a .plan .now) (c .before .before .before .before .before .tree-end .result)) (envOf (a .env .now)) (c .eval2 .result) last
+back₂ : (t : ℕ) (c : eval-lts.After-eval2 (eval-calls t) (eval-at t) eval.Post) → let a = c .before .before .before .before .before .before .before .before .before .before .before .before .before .before .before .before .before .before .before .before .before .args in let own = c .before .before .before .before .before .before .before .before .before .before .before .share-at .result in let cells = putMid own (length (a .cells .now) - own) (a .cells .now) (c .before .before .before .before .before .before .before .before .before .eval .last .1 .1 .1 .0) in let behind = own + c .before .before .before .before .tree-part .result in let last = c .eval2 .last .1 .1 .1 .0 in (length (putMid behind (length cells - behind) cells last) ≡ length (a .cells .now)) × Kid (tablesOf (a .set .now)) (planAt (a .plan .now) (c .before .before .before .before .before .tree-end .result)) (envOf (a .env .now)) (c .eval2 .result) last
 back₂ t c =
     let a = c .before .before .before .before .before .before .before .before .before .before .before .before .before .before .before .before .before .before .before .before .before .args in
-    let own = c .before .before .before .before .before .before .before .before .before .before .before .region-at .result in
+    let own = c .before .before .before .before .before .before .before .before .before .before .before .share-at .result in
     let cells = putMid own (length (a .cells .now) - own) (a .cells .now) (c .before .before .before .before .before .before .before .before .before .eval .last .1 .1 .1 .0) in
     let behind = own + c .before .before .before .before .tree-part .result in
     let last = c .eval2 .last .1 .1 .1 .0 in
     let was = back t (c .before .before .before .before .before .before .before .before .before) .0 in
     let b = behind-at t (c .before .before .before .before) in
     let len : length last ≡ length (a .cells .now) - behind = c .eval2 .kept .1 .1 .1 .0 ∙ tail-length behind cells ∙ ap (λ (x : ℕ). x - behind) was in
-    (same-len-mid behind (length cells - behind) cells last (c .eval2 .kept .1 .1 .1 .0) ∙ was, kid-of (inner-ready (both t (c .before .before .before .before .before)) (c .before .before .before .before .before .before .before .before .before .before .before .before .before .before .before .before .before .before .before .before .before .pre .1) (first t (c .before .before .before .before .before .before .before .before .before .before .before .before)) (c .before .before .before .before .before .before .before .before .before .before .before .region-at .ensures .0) b (length last) len) (c .eval2 .ensures))
+    (same-len-mid behind (length cells - behind) cells last (c .eval2 .kept .1 .1 .1 .0) ∙ was, kid-of (inner-ready (both t (c .before .before .before .before .before)) (c .before .before .before .before .before .before .before .before .before .before .before .before .before .before .before .before .before .before .before .before .before .pre .1) (first t (c .before .before .before .before .before .before .before .before .before .before .before .before)) (c .before .before .before .before .before .before .before .before .before .before .before .share-at .ensures .0) b (length last) len) (c .eval2 .ensures))
 
 -- src/eval.rt:279:8
 pub nodes-of-requires : (t : ℕ) → eval-lts.Need-nodes-of-requires (eval-calls t) (eval-at t) eval.Post
@@ -128,8 +128,8 @@ returns-2 t c =
     leaf-arm (childless-at (tablesOf (a .set .now)) (a .plan .now) (a .at) (c .before .before .before .before .before .before .node-at .result) (here t (c .before .before .before .before .before .before .before)) (c .before .before .before .before .before .before .node-at .ensures) (sym (kinds t (c .before .before .before .before .before)) ∙ c .before .before .before .before .if2 .taken)) (envOf (a .env .now)) (c .before .before .leaf .ensures)
 
 -- src/eval.rt:287:9
-pub region-at-requires : (t : ℕ) → eval-lts.Need-region-at-requires (eval-calls t) (eval-at t) eval.Post
-region-at-requires t c κs = c .before .before .before .before .before .before .before .before .before .pre .1 .sound
+pub share-at-requires : (t : ℕ) → eval-lts.Need-share-at-requires (eval-calls t) (eval-at t) eval.Post
+share-at-requires t c κs = c .before .before .before .before .before .before .before .before .before .pre .1 .sound
 
 -- src/eval.rt:288:16
 pub add-left : (t : ℕ) → eval-lts.Need-add-left (eval-calls t) (eval-at t) eval.Post
@@ -137,15 +137,15 @@ add-left t c = omega (arith, here t (c .before .before .before .before), c .befo
 
 -- src/eval.rt:289:35
 pub mul-eval : (t : ℕ) → eval-lts.Need-mul-eval (eval-calls t) (eval-at t) eval.Post
-mul-eval t c = omega (arith, c .region-at .ensures .1)
+mul-eval t c = omega (arith, c .share-at .ensures .1)
 
 -- src/eval.rt:289:35
 pub sub-eval : (t : ℕ) → eval-lts.Need-sub-eval (eval-calls t) (eval-at t) eval.Post
-sub-eval t c = own-fits (c .before .before .before .before .before .before .before .before .before .before .pre .1) (first t (c .before)) (c .region-at .ensures .0)
+sub-eval t c = own-fits (c .before .before .before .before .before .before .before .before .before .before .pre .1) (first t (c .before)) (c .share-at .ensures .0)
 
 -- src/eval.rt:289:35
 pub part-eval-start : (t : ℕ) → eval-lts.Need-part-eval-start (eval-calls t) (eval-at t) eval.Post
-part-eval-start t c = own-fits (c .before .before .before .before .before .before .before .before .before .before .pre .1) (first t (c .before)) (c .region-at .ensures .0)
+part-eval-start t c = own-fits (c .before .before .before .before .before .before .before .before .before .before .pre .1) (first t (c .before)) (c .share-at .ensures .0)
 
 -- src/eval.rt:289:35
 pub part-eval-end : (t : ℕ) → eval-lts.Need-part-eval-end (eval-calls t) (eval-at t) eval.Post
@@ -153,7 +153,7 @@ part-eval-end t c = omega arith
 
 -- src/eval.rt:289:9
 pub eval-requires : (t : ℕ) → eval-lts.Need-eval-requires (eval-calls t) (eval-at t) eval.Post
-eval-requires t c κs = (omega (arith, first t (c .before .before) .smaller, c .before .before .before .before .before .before .before .before .before .before .before .pre .0), child-ready (c .before .before .before .before .before .before .before .before .before .before .before .pre .1) (first t (c .before .before)) (c .before .region-at .ensures .0) _ (tail-length (c .before .region-at .result) (c .before .before .before .before .before .before .before .before .before .before .before .args .cells .now)))
+eval-requires t c κs = (omega (arith, first t (c .before .before) .smaller, c .before .before .before .before .before .before .before .before .before .before .before .pre .0), child-ready (c .before .before .before .before .before .before .before .before .before .before .before .pre .1) (first t (c .before .before)) (c .before .share-at .ensures .0) _ (tail-length (c .before .share-at .result) (c .before .before .before .before .before .before .before .before .before .before .before .args .cells .now)))
 
 -- src/eval.rt:291:9
 pub unary-at-requires : (t : ℕ) → eval-lts.Need-unary-at-requires (eval-calls t) (eval-at t) eval.Post
@@ -162,7 +162,7 @@ unary-at-requires t c κs =
     let F = first t (c .before .before .before .before .before .before .before) in
     let few = c .before .before .before .before .eval .ensures .few in
     let sound = F .sound (R .sound) in
-    ((sound, sym (kinds t (c .before .before .before .before .before .before .before .before)) ∙ c .before .if3 .taken, R .bound, omega (arith, few, sound-bound sound)), rw (back t (c .before .before .before .before) .0) (unary-room (only t (c .before)) _ R F (c .before .before .before .before .before .before .region-at .ensures .0) few))
+    ((sound, sym (kinds t (c .before .before .before .before .before .before .before .before)) ∙ c .before .if3 .taken, R .bound, omega (arith, few, sound-bound sound)), rw (back t (c .before .before .before .before) .0) (unary-room (only t (c .before)) _ R F (c .before .before .before .before .before .before .share-at .ensures .0) few))
 
 -- src/eval.rt:291:9
 pub same-length-2 : (t : ℕ) → eval-lts.Need-same-length-2 (eval-calls t) (eval-at t) eval.Post
@@ -172,8 +172,8 @@ same-length-2 t c = c .before .before .unary-at .kept .1 .1 .1 .1 .0 ∙ back t 
 pub returns-3 : (t : ℕ) → eval-lts.Need-returns-3 (eval-calls t) (eval-at t) eval.Post
 returns-3 t c =
     let a = c .before .before .before .before .before .before .before .before .before .before .before .before .before .before .before .before .before .before .before .args in
-    let own = c .before .before .before .before .before .before .before .before .before .region-at .result in
-    unary-arm (only t (c .before .before .before .before)) own (length (a .cells .now) - own) (a .cells .now) (own-fits (c .before .before .before .before .before .before .before .before .before .before .before .before .before .before .before .before .before .before .before .pre .1) (first t (c .before .before .before .before .before .before .before .before .before .before)) (c .before .before .before .before .before .before .before .before .before .region-at .ensures .0)) (back t (c .before .before .before .before .before .before .before) .1) (c .before .before .unary-at .ensures)
+    let own = c .before .before .before .before .before .before .before .before .before .share-at .result in
+    unary-arm (only t (c .before .before .before .before)) own (length (a .cells .now) - own) (a .cells .now) (own-fits (c .before .before .before .before .before .before .before .before .before .before .before .before .before .before .before .before .before .before .before .pre .1) (first t (c .before .before .before .before .before .before .before .before .before .before)) (c .before .before .before .before .before .before .before .before .before .share-at .ensures .0)) (back t (c .before .before .before .before .before .before .before) .1) (c .before .before .unary-at .ensures)
 
 -- src/eval.rt:293:9
 pub tree-end-requires : (t : ℕ) → eval-lts.Need-tree-end-requires (eval-calls t) (eval-at t) eval.Post
@@ -197,7 +197,7 @@ nested-at-requires t c κs =
     let R = c .before .before .before .before .before .before .before .before .before .before .before .before .before .before .before .before .before .before .before .before .pre .1 in
     let D = both t (c .before .before .before .before) in
     let F = first t (c .before .before .before .before .before .before .before .before .before .before .before) in
-    let o = c .before .before .before .before .before .before .before .before .before .before .region-at .ensures .0 in
+    let o = c .before .before .before .before .before .before .before .before .before .before .share-at .ensures .0 in
     let b = behind-at t (c .before .before .before) in
     let few = c .before .before .before .before .before .before .before .before .eval .ensures .few in
     let len = back t (c .before .before .before .before .before .before .before .before) .0 in (
@@ -216,8 +216,8 @@ same-length-3 t c = c .before .before .nested-at .kept .1 .1 .1 .1 .1 .0 ∙ bac
 pub returns-4 : (t : ℕ) → eval-lts.Need-returns-4 (eval-calls t) (eval-at t) eval.Post
 returns-4 t c =
     let a = c .before .before .before .before .before .before .before .before .before .before .before .before .before .before .before .before .before .before .before .before .before .before .before .args in
-    let own = c .before .before .before .before .before .before .before .before .before .before .before .before .before .region-at .result in
-    nested-arm (both t (c .before .before .before .before .before .before .before)) own (length (a .cells .now) - own) (a .cells .now) (sym (c .before .before .before .before .before .is-nested .ensures) ∙ c .before .before .before .before .if4 .taken) (own-fits (c .before .before .before .before .before .before .before .before .before .before .before .before .before .before .before .before .before .before .before .before .before .before .before .pre .1) (first t (c .before .before .before .before .before .before .before .before .before .before .before .before .before .before)) (c .before .before .before .before .before .before .before .before .before .before .before .before .before .region-at .ensures .0)) (back t (c .before .before .before .before .before .before .before .before .before .before .before) .1) (c .before .before .nested-at .ensures)
+    let own = c .before .before .before .before .before .before .before .before .before .before .before .before .before .share-at .result in
+    nested-arm (both t (c .before .before .before .before .before .before .before)) own (length (a .cells .now) - own) (a .cells .now) (sym (c .before .before .before .before .before .is-nested .ensures) ∙ c .before .before .before .before .if4 .taken) (own-fits (c .before .before .before .before .before .before .before .before .before .before .before .before .before .before .before .before .before .before .before .before .before .before .before .pre .1) (first t (c .before .before .before .before .before .before .before .before .before .before .before .before .before .before)) (c .before .before .before .before .before .before .before .before .before .before .before .before .before .share-at .ensures .0)) (back t (c .before .before .before .before .before .before .before .before .before .before .before) .1) (c .before .before .nested-at .ensures)
 
 -- src/eval.rt:298:36
 pub mul-eval-2 : (t : ℕ) → eval-lts.Need-mul-eval-2 (eval-calls t) (eval-at t) eval.Post
@@ -239,12 +239,12 @@ part-eval-end-2 t c = omega arith
 pub eval-requires-2 : (t : ℕ) → eval-lts.Need-eval-requires-2 (eval-calls t) (eval-at t) eval.Post
 eval-requires-2 t c κs =
     let a = c .before .before .before .before .before .before .before .before .before .before .before .before .before .before .before .before .before .before .before .before .args in
-    let own = c .before .before .before .before .before .before .before .before .before .before .region-at .result in
+    let own = c .before .before .before .before .before .before .before .before .before .before .share-at .result in
     let cells = putMid own (length (a .cells .now) - own) (a .cells .now) (c .before .before .before .before .before .before .before .before .eval .last .1 .1 .1 .0) in
     let behind = own + c .before .before .before .tree-part .result in
     let b = behind-at t (c .before .before .before) in (
       omega (arith, both t (c .before .before .before .before) .smaller, c .before .before .before .before .before .before .before .before .before .before .before .before .before .before .before .before .before .before .before .before .pre .0),
-      inner-ready (both t (c .before .before .before .before)) (c .before .before .before .before .before .before .before .before .before .before .before .before .before .before .before .before .before .before .before .before .pre .1) (first t (c .before .before .before .before .before .before .before .before .before .before .before)) (c .before .before .before .before .before .before .before .before .before .before .region-at .ensures .0) b _ (tail-length behind cells ∙ ap (λ (x : ℕ). x - behind) (back t (c .before .before .before .before .before .before .before .before) .0)),
+      inner-ready (both t (c .before .before .before .before)) (c .before .before .before .before .before .before .before .before .before .before .before .before .before .before .before .before .before .before .before .before .pre .1) (first t (c .before .before .before .before .before .before .before .before .before .before .before)) (c .before .before .before .before .before .before .before .before .before .before .share-at .ensures .0) b _ (tail-length behind cells ∙ ap (λ (x : ℕ). x - behind) (back t (c .before .before .before .before .before .before .before .before) .0)),
     )
 
 -- src/eval.rt:299:5
@@ -253,7 +253,7 @@ binary-at-requires t c κs =
     let R = c .before .before .before .before .before .before .before .before .before .before .before .before .before .before .before .before .before .before .before .before .before .before .before .before .pre .1 in
     let D = both t (c .before .before .before .before .before .before .before .before) in
     let F = first t (c .before .before .before .before .before .before .before .before .before .before .before .before .before .before .before) in
-    let o = c .before .before .before .before .before .before .before .before .before .before .before .before .before .before .region-at .ensures .0 in
+    let o = c .before .before .before .before .before .before .before .before .before .before .before .before .before .before .share-at .ensures .0 in
     let b = behind-at t (c .before .before .before .before .before .before .before) in
     let few = c .before .before .before .before .before .before .before .before .before .before .before .before .eval .ensures .few in
     let few₂ = c .before .before .before .eval2 .ensures .few in
@@ -270,13 +270,13 @@ same-length-4 t c = c .before .before .binary-at .kept .1 .1 .1 .1 .1 .0 ∙ bac
 pub returns-5 : (t : ℕ) → eval-lts.Need-returns-5 (eval-calls t) (eval-at t) eval.Post
 returns-5 t c =
     let a = c .before .before .before .before .before .before .before .before .before .before .before .before .before .before .before .before .before .before .before .before .before .before .before .before .before .before .before .args in
-    let own = c .before .before .before .before .before .before .before .before .before .before .before .before .before .before .before .before .before .region-at .result in
+    let own = c .before .before .before .before .before .before .before .before .before .before .before .before .before .before .before .before .before .share-at .result in
     let cells = putMid own (length (a .cells .now) - own) (a .cells .now) (c .before .before .before .before .before .before .before .before .before .before .before .before .before .before .before .eval .last .1 .1 .1 .0) in
     let behind = own + c .before .before .before .before .before .before .before .before .before .before .tree-part .result in
     let R = c .before .before .before .before .before .before .before .before .before .before .before .before .before .before .before .before .before .before .before .before .before .before .before .before .before .before .before .pre .1 in
     let D = both t (c .before .before .before .before .before .before .before .before .before .before .before) in
     let F = first t (c .before .before .before .before .before .before .before .before .before .before .before .before .before .before .before .before .before .before) in
-    let o = c .before .before .before .before .before .before .before .before .before .before .before .before .before .before .before .before .before .region-at .ensures .0 in
+    let o = c .before .before .before .before .before .before .before .before .before .before .before .before .before .before .before .before .before .share-at .ensures .0 in
     let few = c .before .before .before .before .before .before .before .before .before .before .before .before .before .before .before .eval .ensures .few in
     let few₂ = c .before .before .before .before .before .before .eval2 .ensures .few in
     binary-arm D own (length (a .cells .now) - own) behind (length cells - behind) (a .cells .now) (sym (c .before .before .before .before .before .before .before .before .before .is-nested .ensures) ∙ c .before .before .before .before .before .before .before .before .if4 .left) (own-fits R F o) (back t (c .before .before .before .before .before .before .before .before .before .before .before .before .before .before .before) .1) (loop-room D R F o (behind-at t (c .before .before .before .before .before .before .before .before .before .before)) _ _ few few₂ .apart) (beyond t (c .before .before .before .before .before .before .before .before .before .before)) (back₂ t (c .before .before .before .before .before .before) .1) (c .before .before .binary-at .ensures)

@@ -23,7 +23,7 @@ use Rattle.reading.proofs.plan.node_at.Reads as node-at-reads
 use Rattle.reading.proofs.tree.nodes_of.Reads as nodes-of-reads
 use Rattle.reading.proofs.tree.tree_end.Reads as tree-end-reads
 use Rattle.reporting.proofs.columns.columns_into.Reads as columns-into-reads
-use Rattle.reporting.proofs.columns.region_at.Reads as region-at-reads
+use Rattle.reporting.proofs.columns.share_at.Reads as share-at-reads
 use Rattle.reporting.proofs.emit.emit_row.Reads as emit-row-reads
 use Rattle.reporting.proofs.env.inner_env.Reads as inner-env-reads
 use Rattle.reporting.proofs.eval.binary_at.Reads as binary-at-reads
@@ -73,7 +73,7 @@ row-step-below t =
     and 6 row-step-kinds.ps (falls 6 row-step-kinds.ps _<_ μ-row-step t) row-step.Pre
 
 abbrev pub eval-calls : ℕ → eval-lts.Claims
-eval-calls t = (nodes-of-reads.Asked, nodes-of-reads.Learnt, node-at-reads.Asked, node-at-reads.Learnt, children-of-reads.Asked, children-of-reads.Learnt, leaf-reads.Asked, leaf-reads.Learnt, region-at-reads.Asked, region-at-reads.Learnt, eval-below t, eval.Post, unary-at-reads.Asked, unary-at-reads.Learnt, tree-end-reads.Asked, tree-end-reads.Learnt, tree-part-reads.Asked, tree-part-reads.Learnt, is-nested-reads.Asked, is-nested-reads.Learnt, nested-at-below t, nested-at.Post, binary-at-reads.Asked, binary-at-reads.Learnt)
+eval-calls t = (nodes-of-reads.Asked, nodes-of-reads.Learnt, node-at-reads.Asked, node-at-reads.Learnt, children-of-reads.Asked, children-of-reads.Learnt, leaf-reads.Asked, leaf-reads.Learnt, share-at-reads.Asked, share-at-reads.Learnt, eval-below t, eval.Post, unary-at-reads.Asked, unary-at-reads.Learnt, tree-end-reads.Asked, tree-end-reads.Learnt, tree-part-reads.Asked, tree-part-reads.Learnt, is-nested-reads.Asked, is-nested-reads.Learnt, nested-at-below t, nested-at.Post, binary-at-reads.Asked, binary-at-reads.Learnt)
 
 abbrev pub nested-at-calls : ℕ → nested-at-lts.Claims
 nested-at-calls t = (columns-into-reads.Asked, columns-into-reads.Learnt, nested-loop-below t, nested-loop.Post)

@@ -22,7 +22,7 @@ use Rattle.reading.proofs.plan.node_at.Reads as node-at-reads
 use Rattle.reading.proofs.tree.nodes_of.Reads as nodes-of-reads
 use Rattle.reading.proofs.tree.tree_end.Reads as tree-end-reads
 use Rattle.reporting.proofs.columns.columns_into.Reads as columns-into-reads
-use Rattle.reporting.proofs.columns.region_at.Reads as region-at-reads
+use Rattle.reporting.proofs.columns.share_at.Reads as share-at-reads
 use Rattle.reporting.proofs.emit.emit_row.Reads as emit-row-reads
 use Rattle.reporting.proofs.env.inner_env.Reads as inner-env-reads
 use Rattle.reporting.proofs.eval.binary_at.Reads as binary-at-reads
@@ -49,7 +49,7 @@ in-row t c =
     let ds = columnsAt (a .set .now) (a .plan .now) (a .inner) in
     let room = rw (s .0 .1) at (s .1 .1 .0) in
     let h = c .loop-test .taken in (
-      record { below = turn-below (l .inv .0) h op (λ e. keeps-rows op (s .0 .0) e (a .ids .now) ds k) (room .region); apart = omega (arith, building-row (l .inv .0) h, room .apart) },
+      record { below = turn-below (l .inv .0) h op (λ e. keeps-rows op (s .0 .0) e (a .ids .now) ds k) (room .share); apart = omega (arith, building-row (l .inv .0) h, room .apart) },
       omega (arith, l .inv .0 .few, turns (a .m) (emittedMost op k) (l .i) h, s .1 .0),
     )
 
@@ -68,7 +68,7 @@ grows t c =
     let ds = columnsAt (a .set .now) (a .plan .now) (a .inner) in
     let room = rw (s .0 .1) at (s .1 .1 .0) in
     let r = c .row-step in
-    let ends = turn-ends (l .inv .0) (c .before .before .loop-test .taken) op (λ e. keeps-rows op (s .0 .0) e (a .ids .now) ds k) (room .region) (r .result) (r .ensures .gives .few) in
+    let ends = turn-ends (l .inv .0) (c .before .before .loop-test .taken) op (λ e. keeps-rows op (s .0 .0) e (a .ids .now) ds k) (room .share) (r .result) (r .ensures .gives .few) in
     omega (arith, ends, in-row t (c .before .before) .0 .apart, ap (λ (x : ℕ). r .result * x) (wide t (c .before .before .before .before)))
 
 -- src/eval.rt:206:9

@@ -22,7 +22,7 @@ use Rattle.reading.proofs.plan.node_at.Reads as node-at-reads
 use Rattle.reading.proofs.tree.nodes_of.Reads as nodes-of-reads
 use Rattle.reading.proofs.tree.tree_end.Reads as tree-end-reads
 use Rattle.reporting.proofs.columns.columns_into.Reads as columns-into-reads
-use Rattle.reporting.proofs.columns.region_at.Reads as region-at-reads
+use Rattle.reporting.proofs.columns.share_at.Reads as share-at-reads
 use Rattle.reporting.proofs.emit.emit_row.Reads as emit-row-reads
 use Rattle.reporting.proofs.env.inner_env.Reads as inner-env-reads
 use Rattle.reporting.proofs.eval.binary_at.Reads as binary-at-reads
