@@ -78,16 +78,21 @@ impl Report {
 
 /// A time in microseconds.
 fn micros(seconds: f64) -> String {
-    format!("{:.0}", seconds * 1e6)
+    digits(seconds * 1e6)
 }
 
-/// A ratio in three digits or so.
 fn ratio(over: f64, under: f64) -> String {
-    let ratio = over / under;
-    if ratio < 10.0 {
-        format!("{ratio:.2}")
+    digits(over / under)
+}
+
+/// A number in three digits or more.
+fn digits(number: f64) -> String {
+    if number < 10.0 {
+        format!("{number:.2}")
+    } else if number < 100.0 {
+        format!("{number:.1}")
     } else {
-        format!("{ratio:.0}")
+        format!("{number:.0}")
     }
 }
 
