@@ -105,6 +105,7 @@ module _ {f : Row → List Row} {answer : List Row} {per m w wo own : ℕ} where
         }
 
 -- ---- where the rows of the row at hand go: they end before it begins
+-- of some rows, one is counted
 pub one-row : (w rows : ℕ) → 1 ≤ rows → min 1 rows * w ≡ w
 one-row w rows h = let one : min 1 rows ≡ 1 = omega arith in ap (λ (k : ℕ). k * w) one ∙ one-mul w
 
