@@ -5,11 +5,11 @@ ghost use lib.ListN.{length};
 ghost use Rattle.reading.specs.Tree.{operatorOf};
 ghost use Rattle.reading.specs.Nodes.{arity};
 ghost use Rattle.reporting.specs.Evaluation.{UnaryRoom, UnaryGiven};
+use crate::distinct::distinct_front;
 use crate::group::group;
 use crate::select::project;
 use crate::select::select;
-use crate::whole::distinct_front;
-use crate::whole::sort_by;
+use crate::sort::sort_by;
 use reading::columns::list_length;
 use reading::plan::Node;
 
