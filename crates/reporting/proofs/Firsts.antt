@@ -12,23 +12,12 @@ use Rattle.algebra.specs.Lists.{same, filter, any, firsts}
 use Rattle.algebra.specs.Plans.{Row}
 use Rattle.algebra.proofs.Lists.{filter-filter, filter-true, same-true}
 use Rattle.reporting.specs.Rows.{chunk, Gives}
+use Rattle.reporting.proofs.Numbers.{any-snoc}
 use Rattle.reporting.proofs.Chunks.{mono, turns, times-suc, next-row, chunk-snoc, chunk-same, paste-front, paste-row, paste-rest}
 
 -- two filters are one
 filter-through : (p q s : Row → Bool) → ((x : Row) → (q x && p x) ≡ s x) → (xs : List Row) → filter p (filter q xs) ≡ filter s xs
 filter-through p q s e xs = filter-filter p q xs ∙ ap (λ (f : Row → Bool). filter f xs) (λ i x. e x i)
-
-or-false : (b : Bool) → (b || false) ≡ b
-or-false true = refl
-or-false false = refl
-
-any-snoc : (p : Row → Bool) (xs : List Row) (y : Row) → any p (xs ++ (y ∷ [])) ≡ (any p xs || p y)
-any-snoc p [] y = or-false (p y)
-any-snoc p (x ∷ xs) y =
-    elim (p x) as (λ b. (b || any p (xs ++ (y ∷ []))) ≡ ((b || any p xs) || p y)) [
-      | true ↦ refl
-      | false ↦ any-snoc p xs y
-    ]
 
 -- q is not among the rows kept
 abbrev pub fresh : List Row → Row → Bool

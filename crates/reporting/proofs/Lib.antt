@@ -1,4 +1,6 @@
 pub mod Chunks
+pub mod Numbers
+pub mod Chains
 pub mod Firsts
 pub mod Keys
 pub mod Sorts

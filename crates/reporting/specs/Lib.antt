@@ -1,5 +1,6 @@
 pub mod Keys
 pub mod Rows
+pub mod Index
 pub mod Positions
 pub mod Written
 pub mod Evaluation

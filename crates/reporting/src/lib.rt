@@ -9,6 +9,7 @@ mod env;
 mod eval;
 mod gather;
 mod group;
+mod index;
 mod leaf;
 pub mod output;
 mod places;
