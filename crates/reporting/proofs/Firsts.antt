@@ -6,14 +6,16 @@ use Prim.Native.Nat.{ℕ, _+_, _*_, _-_, _≤_, _<_}
 use native.Mathlib.Nat.{zero-mul}
 use native.Mathlib.Numerals.{add-one}
 use native.Mathlib.Omega.{arith}
-use lib.ListN.{length, take, drop, length-drop}
+use lib.ListN.{length, take, drop, getD, set, replicate, length-drop}
 use lib.Seq.{paste, length-paste}
 use Rattle.algebra.specs.Lists.{same, filter, any, firsts}
 use Rattle.algebra.specs.Plans.{Row}
 use Rattle.algebra.proofs.Lists.{filter-filter, filter-true, same-true}
 use Rattle.reporting.specs.Rows.{chunk, Gives}
+use Rattle.reporting.specs.Index.{downward, Index}
 use Rattle.reporting.proofs.Numbers.{any-snoc}
-use Rattle.reporting.proofs.Chunks.{mono, turns, times-suc, next-row, chunk-snoc, chunk-same, paste-front, paste-row, paste-rest}
+use Rattle.reporting.proofs.Chains.{index-none, index-snoc}
+use Rattle.reporting.proofs.Chunks.{mono, turns, times-suc, next-row, length-chunk, chunk-snoc, chunk-same, paste-front, paste-row, paste-rest}
 
 -- two filters are one
 filter-through : (p q s : Row → Bool) → ((x : Row) → (q x && p x) ≡ s x) → (xs : List Row) → filter p (filter q xs) ≡ filter s xs
@@ -58,6 +60,17 @@ beyond-new kept rs r h =
     let q : Row → Bool = λ q. not (same r q) in
     ap (λ (b : Bool). cond (not b) (r ∷ filter (fresh kept) (filter q (firsts rs))) (filter (fresh kept) (filter q (firsts rs)))) h
     ∙ ap (λ (l : List Row). r ∷ l) (filter-through (fresh kept) q (fresh (kept ++ (r ∷ []))) (λ x. fresh-new kept r x) (firsts rs))
+
+-- a row is copied behind those that are kept
+pub chunk-kept : (w out src dst : ℕ) (cells cells′ : List ℕ) → dst ≡ out * w → dst ≤ src → src + w ≤ length cells → cells′ ≡ paste cells dst (drop src cells) w → chunk (out + 1) w cells′ ≡ chunk out w cells ++ (take w (drop src cells) ∷ [])
+chunk-kept w out src dst cells cells′ to below inside e =
+    let l : length (drop src cells) ≡ length cells - src = length-drop src cells in
+    let fits : dst ≤ length cells = omega arith in
+    let long : w ≤ length (drop src cells) = omega arith in
+    let front : take (out * w) cells′ ≡ take (out * w) cells = rw (← to) (ap (take dst) e ∙ paste-front cells dst (drop src cells) w fits long) in
+    let here : take w (drop (out * w) cells′) ≡ take w (drop src cells) = rw (← to) (ap (λ (x : List ℕ). take w (drop dst x)) e ∙ paste-row cells dst (drop src cells) w fits long) in
+    ap (λ (k : ℕ). chunk k w cells′) (add-one out) ∙ chunk-snoc out w cells′
+    ∙ ap₂ (λ (a : List Row) (b : Row). a ++ (b ∷ [])) (chunk-same out w cells′ cells front) here
 
 -- ---- the loop of Distinct: the answer is what stands at the front, and what the rows that are left will add to it
 pub record Sifting (answer : List Row) (m w : ℕ) (first cells : List ℕ) (i out src dst : ℕ) : Type 0 where
@@ -124,12 +137,8 @@ module _ (answer : List Row) (m w : ℕ) (first : List ℕ) where
         let rest : List Row = chunk (m - (i + 1)) w (drop (src + w) cells) in
         let fits : dst ≤ length cells = omega arith in
         let long : w ≤ length (drop src cells) = omega arith in
-        let front : take (out * w) cells′ ≡ take (out * w) cells = rw (← to) (ap (take dst) e₁ ∙ paste-front cells dst (drop src cells) w fits long) in
-        let here : take w (drop (out * w) cells′) ≡ row = rw (← to) (ap (λ (x : List ℕ). take w (drop dst x)) e₁ ∙ paste-row cells dst (drop src cells) w fits long) in
         let left : chunk (m - (i + 1)) w (drop (src + w) cells′) ≡ rest = ap (chunk (m - (i + 1)) w) (ap (drop (src + w)) e₁ ∙ paste-rest cells dst (drop src cells) w fits long (src + w) (omega arith)) in
-        let more : chunk (out + 1) w cells′ ≡ kept ++ (row ∷ []) =
-        ap (λ (k : ℕ). chunk k w cells′) (add-one out) ∙ chunk-snoc out w cells′
-        ∙ ap₂ (λ (a : List Row) (b : Row). a ++ (b ∷ [])) (chunk-same out w cells′ cells front) here in
+        let more : chunk (out + 1) w cells′ ≡ kept ++ (row ∷ []) = chunk-kept w out src dst cells cells′ to (omega arith) (omega arith) e₁ in
         let next : Sifting answer m w first cells′ (i + 1) (out + 1) (src + w) (dst + w) = record {
           within = omega arith;
           few = omega (arith, p .few);
@@ -145,3 +154,19 @@ module _ (answer : List Row) (m w : ℕ) (first : List ℕ) where
               ∙ ap₂ (λ (a b : List Row). a ++ beyond a (firsts b)) (sym more) (sym left);
         } in
         rw (e₂, e₃) next
+
+-- ---- the index of the rows that are kept
+
+-- no row is kept yet
+pub index-start : (slot : Row → ℕ) (w : ℕ) (cells heads next : List ℕ) → heads ≡ replicate 4096 0 → Index slot (chunk 0 w cells) (downward 0) heads next
+index-start slot w cells heads next e = rw e (index-none slot (chunk 0 w cells) 4096 next (omega arith))
+
+-- a row is kept
+pub index-kept : (slot : Row → ℕ) (w out src dst b : ℕ) (cells cells′ heads heads′ next next′ : List ℕ) → dst ≡ out * w → dst ≤ src → src + w ≤ length cells → cells′ ≡ paste cells dst (drop src cells) w → b ≡ slot (take w (drop src cells)) → b < length heads → out < length next → heads′ ≡ set heads b (out + 1) → next′ ≡ set next out (getD heads b 0) → Index slot (chunk out w cells) (downward out) heads next → Index slot (chunk (out + 1) w cells′) (downward (out + 1)) heads′ next′
+index-kept slot w out src dst b cells cells′ heads heads′ next next′ to below inside e at lh ln eh en x =
+    let more : chunk (out + 1) w cells′ ≡ chunk out w cells ++ (take w (drop src cells) ∷ []) = chunk-kept w out src dst cells cells′ to below inside e in
+    rw (more, eh, en) (index-snoc slot (chunk out w cells) (take w (drop src cells)) out heads next b (length-chunk out w cells) at lh ln x)
+
+-- only rows of its bucket are the same as a row
+pub same-only : (slot : Row → ℕ) (b : ℕ) (row : Row) → b ≡ slot row → (q : Row) → same q row ≡ true → slot q ≡ b
+same-only slot b row e q t = ap slot (same-true q row t) ∙ sym e
