@@ -26,12 +26,16 @@ Inv-loop cells k src w b heads next h₀ h = Walk k next h × (any (λ q. same q
 abbrev μ-loop : tie.MeasureT-loop
 μ-loop cells k src w b heads next h₀ h = length (chain (suc k) next h)
 
+-- the link at hand is one
+linked : (c : tie.In-loop Inv-loop μ-loop) → 0 < c .before .loop .h
+linked c = omega (arith, c .loop-test .taken)
+
 -- the row at hand lies within the cells
 inside : (c : tie.In-loop Inv-loop μ-loop) → (c .before .loop .h - 1 < c .before .before .before .before .before .before .before .args .k) × ((c .before .loop .h - 1) * c .before .before .before .before .before .before .before .args .w + c .before .before .before .before .before .before .before .args .w ≤ length (c .before .before .before .before .before .before .before .args .cells .now))
 inside c =
     let a = c .before .before .before .before .before .before .before .args in
     let l = c .before .loop in
-    let i : l .h - 1 < a .k = walk-inside (a .k) (a .next .now) (l .h) (l .inv .0) (c .loop-test .taken) in
+    let i : l .h - 1 < a .k = walk-inside (a .k) (a .next .now) (l .h) (l .inv .0) (linked (c)) in
     (i, omega (arith, turns (a .k) (a .w) (l .h - 1) i, c .before .before .before .before .before .before .before .pre .0))
 
 -- the row at hand, as it was compared
@@ -67,7 +71,7 @@ loop-holds c =
 
 -- src/distinct.rt:63:17
 sub-i : tie.Need-sub-i Inv-loop μ-loop
-sub-i c = search needs
+sub-i c = omega (arith, linked (c))
 
 -- src/distinct.rt:64:18
 mul-at : tie.Need-mul-at Inv-loop μ-loop
@@ -123,7 +127,7 @@ returns c =
     let a = c .before .before .before .before .before .before .before .before .before .before .before .args in
     let l = c .before .before .before .before .before .loop in
     let Q : ℕ → Bool = λ i. same (nth (chunk (a .k) (a .w) (a .cells .now)) i) (take (a .w) (drop (a .src) (a .cells .now))) in
-    sym (l .inv .1 ∙ ap (any Q) (walk-next (a .k) (a .next .now) (l .h) (l .inv .0) (c .before .before .before .before .loop-test .taken) (getD (a .next .now) (l .h - 1) 0) refl) ∙ ap (λ (t : Bool). t || any Q (chain (suc (a .k)) (a .next .now) (getD (a .next .now) (l .h - 1) 0))) (row (c .before) ∙ c .if1 .taken))
+    sym (l .inv .1 ∙ ap (any Q) (walk-next (a .k) (a .next .now) (l .h) (l .inv .0) (linked (c .before .before .before .before)) (getD (a .next .now) (l .h - 1) 0) refl) ∙ ap (λ (t : Bool). t || any Q (chain (suc (a .k)) (a .next .now) (getD (a .next .now) (l .h - 1) 0))) (row (c .before) ∙ c .if1 .taken))
 
 -- src/distinct.rt:68:18
 mul-wide-2 : tie.Need-mul-wide-2 Inv-loop μ-loop
@@ -142,7 +146,7 @@ loop-less : tie.Need-loop-less Inv-loop μ-loop
 loop-less c =
     let a = c .before .before .before .before .before .before .before .before .before .before .before .before .before .args in
     let l = c .before .before .before .before .before .before .before .loop in
-    walk-less (a .k) (a .next .now) (l .h) (l .inv .0) (c .before .before .before .before .before .before .loop-test .taken) (c .wide2 .result) (c .wide2 .ensures)
+    walk-less (a .k) (a .next .now) (l .h) (l .inv .0) (linked (c .before .before .before .before .before .before)) (c .wide2 .result) (c .wide2 .ensures)
 
 -- src/distinct.rt:62:5
 loop-again : tie.Need-loop-again Inv-loop μ-loop
@@ -151,8 +155,8 @@ loop-again c =
     let l = c .before .before .before .before .before .before .before .loop in
     let h = c .wide2 .result in
     let Q : ℕ → Bool = λ i. same (nth (chunk (a .k) (a .w) (a .cells .now)) i) (take (a .w) (drop (a .src) (a .cells .now))) in (
-      walk-on (a .k) (a .next .now) (l .h) (l .inv .0) (c .before .before .before .before .before .before .loop-test .taken) h (c .wide2 .ensures),
-      l .inv .1 ∙ ap (any Q) (walk-next (a .k) (a .next .now) (l .h) (l .inv .0) (c .before .before .before .before .before .before .loop-test .taken) h (c .wide2 .ensures)) ∙ ap (λ (t : Bool). t || any Q (chain (suc (a .k)) (a .next .now) h)) (row (c .before .before .before) ∙ c .before .before .if1 .left),
+      walk-on (a .k) (a .next .now) (l .h) (l .inv .0) (linked (c .before .before .before .before .before .before)) h (c .wide2 .ensures),
+      l .inv .1 ∙ ap (any Q) (walk-next (a .k) (a .next .now) (l .h) (l .inv .0) (linked (c .before .before .before .before .before .before)) h (c .wide2 .ensures)) ∙ ap (λ (t : Bool). t || any Q (chain (suc (a .k)) (a .next .now) h)) (row (c .before .before .before) ∙ c .before .before .if1 .left),
     )
 
 -- src/distinct.rt:46:1
@@ -161,7 +165,7 @@ returns-2 c =
     let a = c .before .before .before .before .before .before .before .args in
     let l = c .before .loop in
     let Q : ℕ → Bool = λ i. same (nth (chunk (a .k) (a .w) (a .cells .now)) i) (take (a .w) (drop (a .src) (a .cells .now))) in
-    sym (l .inv .1 ∙ ap (any Q) (chain-end (suc (a .k)) (a .next .now) (l .h) (c .loop-test .left)))
+    sym (l .inv .1 ∙ ap (any Q) (chain-end (suc (a .k)) (a .next .now) (l .h) (omega (arith, c .loop-test .left))))
 
 pub seen-linked-spec : {M : Type 1} → statement M
 seen-linked-spec =
