@@ -3,7 +3,7 @@ use mathlib.Core.Path.{_≡_, sym, ap, _∙_}
 use mathlib.Core.List.{List, [], _++_, append-nil}
 use Prim.Native.Nat.{ℕ, _+_, _*_, _-_, _≤_}
 use native.Mathlib.Omega.{arith}
-use lib.ListN.{length, take, drop, length-drop, drop-of-length-le}
+use lib.ListN.{length, take, drop, length-drop, length-append, drop-of-length-le}
 use lib.Seq.{take-all, drop-drop, drop-at, length-take-le, take-append-le}
 use borrow.Rule.Slice.PartMut.{putMid, postOf}
 use Rattle.reporting.specs.Rows.{chunk}
@@ -19,11 +19,17 @@ pub drop-beyond : (a b : ℕ) (xs ys : List ℕ) → a ≤ b → drop a xs ≡ d
 drop-beyond a b xs ys h e = sym (drop-from a b xs h) ∙ ap (drop (b - a)) e ∙ drop-from a b ys h
 
 -- a part to the end that was lent and is back
-pub lent-tail : (k : ℕ) (cells ys : List ℕ) → k ≤ length cells → drop k (putMid k (length cells - k) cells ys) ≡ ys
-lent-tail k cells ys h =
+pub lent-back : (k : ℕ) (cells ys : List ℕ) → putMid k (length cells - k) cells ys ≡ take k cells ++ ys
+lent-back k cells ys =
     let long : length (drop k cells) ≡ length cells - k = length-drop k cells in
     let none : postOf k (length cells - k) cells ≡ [] = drop-of-length-le (drop k cells) {i = length cells - k} (omega arith) in
-    drop-at (take k cells) (ys ++ postOf k (length cells - k) cells) k (length-take-le k cells h) ∙ ap (λ (l : List ℕ). ys ++ l) none ∙ append-nil ys
+    ap (λ (l : List ℕ). take k cells ++ (ys ++ l)) none ∙ ap (λ (l : List ℕ). take k cells ++ l) (append-nil ys)
+
+pub lent-tail : (k : ℕ) (cells ys : List ℕ) → k ≤ length cells → drop k (putMid k (length cells - k) cells ys) ≡ ys
+lent-tail k cells ys h = ap (drop k) (lent-back k cells ys) ∙ drop-at (take k cells) ys k (length-take-le k cells h)
+
+pub lent-length : (k : ℕ) (cells ys : List ℕ) → k ≤ length cells → length ys ≡ length cells - k → length (putMid k (length cells - k) cells ys) ≡ length cells
+lent-length k cells ys h e = omega (arith, ap length (lent-back k cells ys), length-append (take k cells) ys, length-take-le k cells h)
 
 -- the rows at the front of a part that is back
 pub lent-rows : (k j : ℕ) (cells ys : List ℕ) (m w : ℕ) → k ≤ length cells → m * w ≤ length ys → chunk m w (drop k (putMid k j cells ys)) ≡ chunk m w ys

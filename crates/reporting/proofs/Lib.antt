@@ -4,6 +4,8 @@ pub mod Chains
 pub mod Firsts
 pub mod Keys
 pub mod Sorts
+pub mod Merging
+pub mod Tags
 pub mod Alike
 pub mod Groups
 pub mod Copies

@@ -2,6 +2,7 @@ pub mod Keys
 pub mod Rows
 pub mod Index
 pub mod Positions
+pub mod Merging
 pub mod Written
 pub mod Evaluation
 pub mod Tallies

@@ -11,6 +11,8 @@ mod gather;
 mod group;
 mod index;
 mod leaf;
+mod merge;
+mod order;
 pub mod output;
 mod places;
 pub mod report;
