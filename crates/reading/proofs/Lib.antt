@@ -15,3 +15,5 @@ pub mod BoundLaws
 pub mod NeedLaws
 pub mod FlagLaws
 pub mod ViewLaws
+pub mod FreeLaws
+pub mod ByteLaws

@@ -5,4 +5,5 @@ pub mod Tree
 pub mod Encoding
 pub mod Flags
 pub mod Nodes
+pub mod Frees
 pub mod Check

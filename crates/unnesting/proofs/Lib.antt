@@ -1,6 +1,4 @@
 pub mod BitLaws
-pub mod FreeLaws
-pub mod ByteLaws
 pub mod ImageLaws
 pub mod PlaceLaws
 pub mod ChangeLaws

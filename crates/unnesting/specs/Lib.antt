@@ -1,5 +1,4 @@
 pub mod Ids
-pub mod Frees
 pub mod Images
 pub mod Links
 pub mod Shapes

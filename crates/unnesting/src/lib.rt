@@ -1,9 +1,8 @@
 // Unnesting: the eight rules at the places of a plan's bytes, and the two calls. `shape` says what the rule at a place makes of the plan, so far
-// as the plan alone decides (`join`, `count`, by `free` and `ids`), `sequence` what rows decide, `change` writes the plan after it (`image`),
-// `step` tries a place and finds the smallest that fits, `run` goes on until none does.
+// as the plan alone decides (`join`, `count`, by `ids` and by reading's `free`), `sequence` what rows decide, `change` writes the plan after it
+// (`image`), `step` tries a place and finds the smallest that fits, `run` goes on until none does.
 mod change;
 mod count;
-mod free;
 mod ids;
 mod image;
 mod join;

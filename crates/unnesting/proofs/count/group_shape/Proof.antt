@@ -12,7 +12,7 @@ use Rattle.reading.proofs.tree.tree_end.Reads as tree-end-reads
 use Rattle.unnesting.proofs.change.no_shape.Reads as no-shape-reads
 use Rattle.unnesting.proofs.count.is_keyed.Reads as is-keyed-reads
 use Rattle.unnesting.proofs.count.pair_group.Reads as pair-group-reads
-use Rattle.unnesting.proofs.free.local_at.Reads as local-at-reads
+use Rattle.reading.proofs.free.local_at.Reads as local-at-reads
 
 below : (c : tie.Start) → c .args .i < 64
 below c = place-below (c .args .set .now) (c .args .plan .now) (c .pre .0) (c .args .i) (c .pre .1 .0 .0)

@@ -6,7 +6,7 @@ use Rattle.unnesting.proofs.count.is_keyed.Tie as tie
 use Rattle.unnesting.proofs.count.is_keyed.Reads as reads
 use Rattle.unnesting.proofs.count.is_keyed.Lts as lts
 use Rattle.unnesting.proofs.count.only_key.Reads as only-key-reads
-use Rattle.unnesting.proofs.free.is_closed.Reads as is-closed-reads
+use Rattle.reading.proofs.free.is_closed.Reads as is-closed-reads
 
 -- src/count.rt:54:9
 only-key-requires : tie.Need-only-key-requires

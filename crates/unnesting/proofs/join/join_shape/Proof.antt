@@ -17,7 +17,7 @@ use Rattle.unnesting.proofs.join.join_shape.Reads as reads
 use Rattle.unnesting.proofs.join.join_shape.Lts as lts
 use Rattle.reading.proofs.tree.tree_end.Reads as tree-end-reads
 use Rattle.unnesting.proofs.change.no_shape.Reads as no-shape-reads
-use Rattle.unnesting.proofs.free.avoids_at.Reads as avoids-at-reads
+use Rattle.reading.proofs.free.avoids_at.Reads as avoids-at-reads
 use Rattle.unnesting.proofs.join.link_at.Reads as link-at-reads
 use Rattle.unnesting.proofs.join.pair_node.Reads as pair-node-reads
 use Rattle.unnesting.proofs.join.semi_node.Reads as semi-node-reads

@@ -8,7 +8,7 @@ use Rattle.unnesting.proofs.shape.cross_shape.Reads as reads
 use Rattle.unnesting.proofs.shape.cross_shape.Lts as lts
 use Rattle.reading.proofs.tree.tree_end.Reads as tree-end-reads
 use Rattle.unnesting.proofs.change.no_shape.Reads as no-shape-reads
-use Rattle.unnesting.proofs.free.is_closed.Reads as is-closed-reads
+use Rattle.reading.proofs.free.is_closed.Reads as is-closed-reads
 use Rattle.unnesting.proofs.image.plain_node.Reads as plain-node-reads
 
 -- src/shape.rt:121:28

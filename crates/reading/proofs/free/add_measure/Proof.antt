@@ -1,11 +1,11 @@
 use Rattle.reading.proofs.FlagLaws.{adds-none}
 use Rattle.reading.proofs.ViewLaws.{measured-none, measured-one}
 use borrow.Author.Needs.{needs}
-use Rattle.unnesting.proofs.free.add_measure.Statement.{statement}
-use Rattle.unnesting.proofs.free.add_measure.Tie as tie
-use Rattle.unnesting.proofs.free.add_measure.Reads as reads
-use Rattle.unnesting.proofs.free.add_measure.Lts as lts
+use Rattle.reading.proofs.free.add_measure.Statement.{statement}
+use Rattle.reading.proofs.free.add_measure.Tie as tie
+use Rattle.reading.proofs.free.add_measure.Reads as reads
+use Rattle.reading.proofs.free.add_measure.Lts as lts
 use Rattle.reading.proofs.flags.add_id.Reads as add-id-reads
 
 -- src/free.rt:94:9
 returns : tie.Need-returns

@@ -1,8 +1,8 @@
 use borrow.Author.Tests.{eq-eqb, ne-eqb}
-use Rattle.unnesting.proofs.free.both.Statement.{statement}
-use Rattle.unnesting.proofs.free.both.Tie as tie
-use Rattle.unnesting.proofs.free.both.Reads as reads
-use Rattle.unnesting.proofs.free.both.Lts as lts
+use Rattle.reading.proofs.free.both.Statement.{statement}
+use Rattle.reading.proofs.free.both.Tie as tie
+use Rattle.reading.proofs.free.both.Reads as reads
+use Rattle.reading.proofs.free.both.Lts as lts
 
 -- src/free.rt:49:1
 returns : tie.Need-returns

@@ -1,17 +1,17 @@
 use native.Mathlib.Omega.{arith}
 use mathlib.Core.Path.{_∙_}
 use Rattle.algebra.specs.Names.{closed, free}
 use Rattle.reading.specs.TableSet.{tablesOf}
 use Rattle.reading.specs.Tree.{planAt}
-use Rattle.unnesting.proofs.FreeLaws.{flags-every, apart-every}
-use Rattle.unnesting.proofs.ByteLaws.{free-small}
+use Rattle.reading.proofs.FreeLaws.{flags-every, apart-every}
+use Rattle.reading.proofs.ByteLaws.{free-small}
 use borrow.Author.Needs.{needs}
-use Rattle.unnesting.proofs.free.is_closed.Statement.{statement}
-use Rattle.unnesting.proofs.free.is_closed.Tie as tie
-use Rattle.unnesting.proofs.free.is_closed.Reads as reads
-use Rattle.unnesting.proofs.free.is_closed.Lts as lts
-use Rattle.unnesting.proofs.free.apart.Reads as apart-reads
-use Rattle.unnesting.proofs.free.free_columns.Reads as free-columns-reads
+use Rattle.reading.proofs.free.is_closed.Statement.{statement}
+use Rattle.reading.proofs.free.is_closed.Tie as tie
+use Rattle.reading.proofs.free.is_closed.Reads as reads
+use Rattle.reading.proofs.free.is_closed.Lts as lts
+use Rattle.reading.proofs.free.apart.Reads as apart-reads
+use Rattle.reading.proofs.free.free_columns.Reads as free-columns-reads
 
 -- src/free.rt:183:11
 free-columns-requires : tie.Need-free-columns-requires

@@ -1,12 +1,12 @@
-use Rattle.unnesting.proofs.FreeLaws.{flags-minus, flags-joined}
+use Rattle.reading.proofs.FreeLaws.{flags-minus, flags-joined}
 use borrow.Author.Needs.{needs}
-use Rattle.unnesting.proofs.free.node_free.Statement.{statement}
-use Rattle.unnesting.proofs.free.node_free.Tie as tie
-use Rattle.unnesting.proofs.free.node_free.Reads as reads
-use Rattle.unnesting.proofs.free.node_free.Lts as lts
-use Rattle.unnesting.proofs.free.inner_free.Reads as inner-free-reads
-use Rattle.unnesting.proofs.free.node_names.Reads as node-names-reads
-use Rattle.unnesting.proofs.free.set_where.Reads as set-where-reads
+use Rattle.reading.proofs.free.node_free.Statement.{statement}
+use Rattle.reading.proofs.free.node_free.Tie as tie
+use Rattle.reading.proofs.free.node_free.Reads as reads
+use Rattle.reading.proofs.free.node_free.Lts as lts
+use Rattle.reading.proofs.free.inner_free.Reads as inner-free-reads
+use Rattle.reading.proofs.free.node_names.Reads as node-names-reads
+use Rattle.reading.proofs.free.set_where.Reads as set-where-reads
 
 -- src/free.rt:149:35
 node-names-requires : tie.Need-node-names-requires

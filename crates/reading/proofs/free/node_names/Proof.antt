@@ -1,17 +1,17 @@
 use mathlib.Core.Path.{refl, _∙_}
 use Rattle.reading.proofs.FlagLaws.{flags-none, adds-first, adds-then}
-use Rattle.unnesting.proofs.FreeLaws.{flags-is, flags-minus, names-read, names-more}
+use Rattle.reading.proofs.FreeLaws.{flags-is, flags-minus, names-read, names-more}
 use borrow.Author.Needs.{needs}
-use Rattle.unnesting.proofs.free.node_names.Statement.{statement}
-use Rattle.unnesting.proofs.free.node_names.Tie as tie
-use Rattle.unnesting.proofs.free.node_names.Reads as reads
-use Rattle.unnesting.proofs.free.node_names.Lts as lts
+use Rattle.reading.proofs.free.node_names.Statement.{statement}
+use Rattle.reading.proofs.free.node_names.Tie as tie
+use Rattle.reading.proofs.free.node_names.Reads as reads
+use Rattle.reading.proofs.free.node_names.Lts as lts
 use Rattle.reading.proofs.flags.add_id.Reads as add-id-reads
 use Rattle.reading.proofs.view.add_list.Reads as add-list-reads
-use Rattle.unnesting.proofs.free.add_measure.Reads as add-measure-reads
-use Rattle.unnesting.proofs.free.add_test.Reads as add-test-reads
-use Rattle.unnesting.proofs.free.names_of.Reads as names-of-reads
-use Rattle.unnesting.proofs.free.set_where.Reads as set-where-reads
+use Rattle.reading.proofs.free.add_measure.Reads as add-measure-reads
+use Rattle.reading.proofs.free.add_test.Reads as add-test-reads
+use Rattle.reading.proofs.free.names_of.Reads as names-of-reads
+use Rattle.reading.proofs.free.set_where.Reads as set-where-reads
 
 -- src/free.rt:104:9
 names-of-requires : tie.Need-names-of-requires

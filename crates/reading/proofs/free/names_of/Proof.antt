@@ -2,12 +2,12 @@ use native.Mathlib.Omega.{arith}
 use mathlib.Core.Path.{refl, sym}
 use Prim.Native.Nat.{_≤_}
 use lib.ListN.{length, List·getD-eq-default}
-use Rattle.unnesting.specs.Frees.{namesTable}
+use Rattle.reading.specs.Frees.{namesTable}
 use borrow.Author.Needs.{needs}
-use Rattle.unnesting.proofs.free.names_of.Statement.{statement}
-use Rattle.unnesting.proofs.free.names_of.Tie as tie
-use Rattle.unnesting.proofs.free.names_of.Reads as reads
-use Rattle.unnesting.proofs.free.names_of.Lts as lts
+use Rattle.reading.proofs.free.names_of.Statement.{statement}
+use Rattle.reading.proofs.free.names_of.Tie as tie
+use Rattle.reading.proofs.free.names_of.Reads as reads
+use Rattle.reading.proofs.free.names_of.Lts as lts
 
 -- src/free.rt:31:18
 array-read-result : tie.Need-array-read-result

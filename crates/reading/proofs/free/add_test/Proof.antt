@@ -1,10 +1,10 @@
 use Rattle.reading.proofs.FlagLaws.{adds-none, adds-then}
 use borrow.Author.Needs.{needs}
-use Rattle.unnesting.proofs.free.add_test.Statement.{statement}
-use Rattle.unnesting.proofs.free.add_test.Tie as tie
-use Rattle.unnesting.proofs.free.add_test.Reads as reads
-use Rattle.unnesting.proofs.free.add_test.Lts as lts
+use Rattle.reading.proofs.free.add_test.Statement.{statement}
+use Rattle.reading.proofs.free.add_test.Tie as tie
+use Rattle.reading.proofs.free.add_test.Reads as reads
+use Rattle.reading.proofs.free.add_test.Lts as lts
 use Rattle.reading.proofs.flags.add_id.Reads as add-id-reads
 
 -- src/free.rt:74:25
 enum-told : tie.Need-enum-told

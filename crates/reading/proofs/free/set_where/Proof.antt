@@ -4,11 +4,11 @@ use borrow.Author.Needs.{needs}
 use mathlib.Core.Path.{_≡_}
 use mathlib.Core.Logic.{⊎-elim}
 use lib.ListN.{length}
-use Rattle.unnesting.proofs.FreeLaws.{SetSoFar, set-none, set-taken, set-passed, set-end}
-use Rattle.unnesting.proofs.free.set_where.Statement.{statement}
-use Rattle.unnesting.proofs.free.set_where.Tie as tie
-use Rattle.unnesting.proofs.free.set_where.Reads as reads
-use Rattle.unnesting.proofs.free.set_where.Lts as lts
+use Rattle.reading.proofs.FreeLaws.{SetSoFar, set-none, set-taken, set-passed, set-end}
+use Rattle.reading.proofs.free.set_where.Statement.{statement}
+use Rattle.reading.proofs.free.set_where.Tie as tie
+use Rattle.reading.proofs.free.set_where.Reads as reads
+use Rattle.reading.proofs.free.set_where.Lts as lts
 
 abbrev Inv-loop : tie.InvT-loop
 Inv-loop value at marks₀ k₀ marks k = (k ≤ 256) × (length marks ≡ 256) × SetSoFar marks₀ at value marks k

@@ -5,20 +5,20 @@ ghost use lib.Dec.{eqb};
 ghost use Rattle.algebra.specs.Names.{closed, free, measured};
 ghost use Rattle.algebra.specs.Plans.{formNames};
 ghost use Rattle.algebra.specs.Rules.{avoids, local};
 ghost use Rattle.reading.specs.TableSet.{tablesOf};
 ghost use Rattle.reading.specs.Tree.{formOf, nodeAggregate, nodeTest, operatorOf, planAt};
 ghost use Rattle.reading.specs.Flags.{Adds, Flags};
-ghost use Rattle.unnesting.specs.Frees.{Apart, InnerFree, NodeFree, SetWhere, namesOf, operatorNames};
-use reading::flags::add_id;
-use reading::kinds::children_of;
-use reading::plan::Node;
-use reading::plan::Test;
-use reading::plan::node_at;
-use reading::tree::nodes_of;
-use reading::tree::tree_end;
-use reading::view::add_columns;
-use reading::view::add_list;
-use reading::view::test_seen;
+ghost use Rattle.reading.specs.Frees.{Apart, InnerFree, NodeFree, SetWhere, namesOf, operatorNames};
+use crate::flags::add_id;
+use crate::kinds::children_of;
+use crate::plan::Node;
+use crate::plan::Test;
+use crate::plan::node_at;
+use crate::tree::nodes_of;
+use crate::tree::tree_end;
+use crate::view::add_columns;
+use crate::view::add_list;
+use crate::view::test_seen;
 
 // What each kind names.
 const NAMES: [u8; 15] = [0, 0, 2, 1, 1, 0, 3, 3, 2, 2, 4, 0, 5, 6, 1];
@@ -161,7 +161,7 @@ fn node_free(
 }
 
 // The columns that the tree at place i names from outside itself, by recursion on the nodes that remain.
-pub(crate) fn free_columns(set: &[u8], plan: &[u8], i: usize) -> [u8; 256]
+fn free_columns(set: &[u8], plan: &[u8], i: usize) -> [u8; 256]
     ensures { λ r. ⌜ Flags r (free (tablesOf (now (set .entry))) (planAt (now (plan .entry)) i)) ⌝ }
 {
     let none = [0u8; 256];
@@ -185,7 +185,7 @@ pub(crate) fn free_columns(set: &[u8], plan: &[u8], i: usize) -> [u8; 256]
 }
 
 // Whether the tree at place i names no column from outside itself.
-pub(crate) fn is_closed(set: &[u8], plan: &[u8], i: usize) -> bool
+pub fn is_closed(set: &[u8], plan: &[u8], i: usize) -> bool
     ensures { λ r. ⌜ r ≡ closed (tablesOf (now (set .entry))) (planAt (now (plan .entry)) i) ⌝ }
 {
     let every = [1u8; 256];
@@ -193,7 +193,7 @@ pub(crate) fn is_closed(set: &[u8], plan: &[u8], i: usize) -> bool
 }
 
 // Whether the tree at place g names no column of the tree at place e.
-pub(crate) fn avoids_at(set: &[u8], plan: &[u8], g: usize, e: usize) -> bool
+pub fn avoids_at(set: &[u8], plan: &[u8], g: usize, e: usize) -> bool
     ensures { λ r. ⌜ r ≡ avoids (tablesOf (now (set .entry))) (planAt (now (plan .entry)) g) (planAt (now (plan .entry)) e) ⌝ }
 {
     let none = [0u8; 256];
@@ -202,7 +202,7 @@ pub(crate) fn avoids_at(set: &[u8], plan: &[u8], g: usize, e: usize) -> bool
 }
 
 // Whether the node's test names only columns of the tree at place f.
-pub(crate) fn local_at(set: &[u8], plan: &[u8], node: Node, f: usize) -> bool
+pub fn local_at(set: &[u8], plan: &[u8], node: Node, f: usize) -> bool
     ensures { λ r. ⌜ r ≡ local (tablesOf (now (set .entry))) (nodeTest node) (planAt (now (plan .entry)) f) ⌝ }
 {
     let none = [0u8; 256];

@@ -13,16 +13,16 @@ use Rattle.algebra.specs.Lists.{if_then_else_, all, member, minus, isEmpty, upw
 use Rattle.algebra.specs.Plans.{Tables, names, Unary, select, project, distinct, group, sort, columns}
 use Rattle.algebra.specs.Names.{measured, unaryFree, free}
 use Rattle.algebra.specs.Refusals.{byte}
 use Rattle.reading.specs.Plan.{kindEntry, nodeAt, nodesOf}
 use Rattle.reading.specs.Tree.{operatorBy, operatorOf, operatorAt, planAt}
 use Rattle.reading.specs.Flags.{Flags}
 use Rattle.reading.specs.Nodes.{arity, operatorNested}
 use Rattle.reading.specs.declared.plan.Node.{Node}
 use Rattle.reading.proofs.Operators.{by-kind, kind-above}
 use Rattle.reading.proofs.Ends.{children-at}
 use Rattle.reading.proofs.Trees.{plan-case, firstTree, secondTree}
 use Rattle.reading.proofs.FlagLaws.{SameMembers, member-append, flag-decides}
-use Rattle.unnesting.specs.Frees.{unaryNames, operatorNames, namesTable, namesOf, nodeNames, rowNames, operatorFree, SetWhere}
+use Rattle.reading.specs.Frees.{unaryNames, operatorNames, namesTable, namesOf, nodeNames, rowNames, operatorFree, SetWhere}
 
 -- ---- members
 

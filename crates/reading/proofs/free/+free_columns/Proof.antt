@@ -1,25 +1,25 @@
 use native.Mathlib.Omega.{arith}
 use Prim.Native.Nat.{_-_}
 use Rattle.algebra.specs.Names.{free}
 use Rattle.reading.specs.Plan.{nodesOf}
 use Rattle.reading.specs.TableSet.{tablesOf}
 use Rattle.reading.proofs.Trees.{plan-past, second-at}
 use Rattle.reading.proofs.FlagLaws.{flags-none, flags-same, adds-first}
-use Rattle.unnesting.proofs.FreeLaws.{flags-is, read-leaf, read-one, read-two}
+use Rattle.reading.proofs.FreeLaws.{flags-is, read-leaf, read-one, read-two}
 use Prim.Native.Nat.{ℕ, _<_}
 use borrow.Fn.Kinds.{In}
 use borrow.Fn.PlainCycle.{Measures, is, falls, and}
-use Rattle.unnesting.proofs.free.free_columns.Reads as free-columns
-use Rattle.unnesting.proofs.free.free_columns.Kinds as free-columns-kinds
-use Rattle.unnesting.proofs.free.+free_columns.Lts-free_columns as free-columns-lts
+use Rattle.reading.proofs.free.free_columns.Reads as free-columns
+use Rattle.reading.proofs.free.free_columns.Kinds as free-columns-kinds
+use Rattle.reading.proofs.free.+free_columns.Lts-free_columns as free-columns-lts
 use Rattle.reading.proofs.kinds.children_of.Reads as children-of-reads
 use Rattle.reading.proofs.plan.node_at.Reads as node-at-reads
 use Rattle.reading.proofs.tree.nodes_of.Reads as nodes-of-reads
 use Rattle.reading.proofs.tree.tree_end.Reads as tree-end-reads
 use Rattle.reading.proofs.view.add_columns.Reads as add-columns-reads
-use Rattle.unnesting.proofs.free.node_free.Reads as node-free-reads
-use Rattle.unnesting.proofs.free.+free_columns.{statement}
-use Rattle.unnesting.proofs.free.+free_columns.Tie.{close}
+use Rattle.reading.proofs.free.node_free.Reads as node-free-reads
+use Rattle.reading.proofs.free.+free_columns.{statement}
+use Rattle.reading.proofs.free.+free_columns.Tie.{close}
 
 abbrev μ-free-columns : Measures 2 free-columns-kinds.ps ℕ
 μ-free-columns κs a = nodesOf (a .1 .0 .now) - a .1 .1 .0

@@ -1,11 +1,11 @@
 use Rattle.reading.proofs.FlagLaws.{adds-first}
 use borrow.Author.Needs.{needs}
-use Rattle.unnesting.proofs.free.local_at.Statement.{statement}
-use Rattle.unnesting.proofs.free.local_at.Tie as tie
-use Rattle.unnesting.proofs.free.local_at.Reads as reads
-use Rattle.unnesting.proofs.free.local_at.Lts as lts
+use Rattle.reading.proofs.free.local_at.Statement.{statement}
+use Rattle.reading.proofs.free.local_at.Tie as tie
+use Rattle.reading.proofs.free.local_at.Reads as reads
+use Rattle.reading.proofs.free.local_at.Lts as lts
 use Rattle.reading.proofs.view.add_columns.Reads as add-columns-reads
 use Rattle.reading.proofs.view.test_seen.Reads as test-seen-reads
 
 -- src/free.rt:200:9
 add-columns-requires : tie.Need-add-columns-requires

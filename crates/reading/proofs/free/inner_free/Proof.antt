@@ -1,11 +1,11 @@
 use native.Mathlib.Omega.{arith}
-use Rattle.unnesting.proofs.FreeLaws.{flags-minus, nested-low, nested-high, nested-middle}
+use Rattle.reading.proofs.FreeLaws.{flags-minus, nested-low, nested-high, nested-middle}
 use borrow.Author.Needs.{needs}
-use Rattle.unnesting.proofs.free.inner_free.Statement.{statement}
-use Rattle.unnesting.proofs.free.inner_free.Tie as tie
-use Rattle.unnesting.proofs.free.inner_free.Reads as reads
-use Rattle.unnesting.proofs.free.inner_free.Lts as lts
-use Rattle.unnesting.proofs.free.set_where.Reads as set-where-reads
+use Rattle.reading.proofs.free.inner_free.Statement.{statement}
+use Rattle.reading.proofs.free.inner_free.Tie as tie
+use Rattle.reading.proofs.free.inner_free.Reads as reads
+use Rattle.reading.proofs.free.inner_free.Lts as lts
+use Rattle.reading.proofs.free.set_where.Reads as set-where-reads
 
 -- src/free.rt:137:9
 returns : tie.Need-returns

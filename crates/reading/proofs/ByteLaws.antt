@@ -16,18 +16,18 @@ use Rattle.algebra.specs.Places.{size}
 use Rattle.algebra.specs.Names.{measured, binaryNames, innerFree, unaryFree, free}
 use Rattle.algebra.specs.Refusals.{byte}
 use Rattle.algebra.proofs.Lists.{all-member, all-from}
 use Rattle.reading.specs.Bytes.{byteAt, u32At}
 use Rattle.reading.specs.TableSet.{wordOf}
 use Rattle.reading.specs.Plan.{nodePart, testOf, nodeOf, nodeAt, nodesOf}
 use Rattle.reading.specs.Tree.{formOf, aggregateOf, operatorOf, planAt}
 use Rattle.reading.specs.declared.plan.Test.the-variants.{Always, Columns, Number}
 use Rattle.reading.specs.declared.plan.Node.{Node}
 use Rattle.reading.proofs.FieldBytes.{Bytes}
 use Rattle.reading.proofs.FlagLaws.{SameMembers}
 use Rattle.reading.proofs.Places.{all-joined}
 use Rattle.reading.proofs.Trees.{plan-past, plan-case, firstTree, secondTree}
-use Rattle.unnesting.specs.Frees.{unaryNames, operatorNames, nodeNames, namesOf, testNamed, rowNames}
-use Rattle.unnesting.proofs.FreeLaws.{names-by-kind, unary-free}
+use Rattle.reading.specs.Frees.{unaryNames, operatorNames, nodeNames, namesOf, testNamed, rowNames}
+use Rattle.reading.proofs.FreeLaws.{names-by-kind, unary-free}
 
 -- ---- lists of bytes
 

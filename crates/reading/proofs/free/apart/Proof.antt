@@ -4,12 +4,12 @@ use mathlib.Core.Path.{_≡_, sym, _∙_}
 use mathlib.Core.Bool.{false, _&&_}
 use lib.Dec.{eqb}
 use lib.ListN.{getD}
-use Rattle.unnesting.proofs.FreeLaws.{flags-meet, flags-apart, apart-next}
-use Rattle.unnesting.proofs.free.apart.Statement.{statement}
-use Rattle.unnesting.proofs.free.apart.Tie as tie
-use Rattle.unnesting.proofs.free.apart.Reads as reads
-use Rattle.unnesting.proofs.free.apart.Lts as lts
-use Rattle.unnesting.proofs.free.both.Reads as both-reads
+use Rattle.reading.proofs.FreeLaws.{flags-meet, flags-apart, apart-next}
+use Rattle.reading.proofs.free.apart.Statement.{statement}
+use Rattle.reading.proofs.free.apart.Tie as tie
+use Rattle.reading.proofs.free.apart.Reads as reads
+use Rattle.reading.proofs.free.apart.Lts as lts
+use Rattle.reading.proofs.free.both.Reads as both-reads
 
 abbrev Inv-loop : tie.InvT-loop
 Inv-loop flags other k₀ k = (k ≤ 256) × ((j : ℕ) → j < k → (eqb (getD flags j 0) 1 && eqb (getD other j 0) 1) ≡ false)

@@ -1,15 +1,15 @@
 use native.Mathlib.Omega.{arith}
 use Rattle.reading.specs.TableSet.{tablesOf}
 use Rattle.reading.proofs.FlagLaws.{adds-first}
-use Rattle.unnesting.proofs.ByteLaws.{free-small}
+use Rattle.reading.proofs.ByteLaws.{free-small}
 use borrow.Author.Needs.{needs}
-use Rattle.unnesting.proofs.free.avoids_at.Statement.{statement}
-use Rattle.unnesting.proofs.free.avoids_at.Tie as tie
-use Rattle.unnesting.proofs.free.avoids_at.Reads as reads
-use Rattle.unnesting.proofs.free.avoids_at.Lts as lts
+use Rattle.reading.proofs.free.avoids_at.Statement.{statement}
+use Rattle.reading.proofs.free.avoids_at.Tie as tie
+use Rattle.reading.proofs.free.avoids_at.Reads as reads
+use Rattle.reading.proofs.free.avoids_at.Lts as lts
 use Rattle.reading.proofs.view.add_columns.Reads as add-columns-reads
-use Rattle.unnesting.proofs.free.apart.Reads as apart-reads
-use Rattle.unnesting.proofs.free.free_columns.Reads as free-columns-reads
+use Rattle.reading.proofs.free.apart.Reads as apart-reads
+use Rattle.reading.proofs.free.free_columns.Reads as free-columns-reads
 
 -- src/free.rt:191:9
 add-columns-requires : tie.Need-add-columns-requires
