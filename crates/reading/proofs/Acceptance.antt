@@ -17,11 +17,11 @@ use Rattle.algebra.proofs.Places.{subtrees-length}
 use Rattle.algebra.proofs.Needs.{share-most}
 use Rattle.algebra.proofs.Refusals.{refusal-none, refusal-0, refusal-11, refusal-12, refusal-13, refusal-14}
 use Rattle.reading.specs.Bytes.{startsWith, allBelow}
-use Rattle.reading.specs.TableSet.{tableMark, sizeAllowed, cellBytes, cellsOf, cellsAllowed, readTable, readFrom, readSet, afterTable, amountOf, tablesOf}
+use Rattle.reading.specs.TableSet.{tableMark, sizeAllowed, cellBytes, cellsOf, cellsAllowed, readTable, readFrom, readSet, afterTable, amountOf, knownTables, tablesOf}
 use Rattle.reading.specs.Plan.{readPlan, nodesOf, planMark, nodesAllowed}
 use Rattle.reading.specs.Tree.{operatorAt, planAt, planOf, wholeTree}
 use Rattle.reading.specs.Nodes.{idsOf}
-use Rattle.reading.specs.Check.{setNumber, planNumber, orNext, treeNumber, planRefusal, inputRefusal, answer, checkOf}
+use Rattle.reading.specs.Check.{setNumber, planNumber, orNext, treeNumber, refusalOver, planRefusal, inputRefusal, answer, checkOf, checkOver}
 use Rattle.reading.specs.declared.set.SetRead.{SetRead}
 use Rattle.reading.specs.declared.set.SetRead.the-variants.{Holds, Refused}
 use Rattle.reading.specs.declared.set.TableRead.{TableRead}
@@ -31,6 +31,7 @@ use Rattle.reading.specs.declared.plan.PlanRead.the-variants.{Nodes, Ref
 use Rattle.reading.specs.declared.input.Checked.the-variants.{Accepted, Refused as InputRefused}
 use Rattle.reading.proofs.Places.{whole-size, whole-found, whole-introduced, whole-all}
 use Rattle.reading.proofs.PlanBytes.{plan-known}
+use Rattle.reading.proofs.Amounts.{introduced-amount, view-amount, narrow-amount, low-amount, need-amount}
 
 -- ---- no refusal has the number 0
 
@@ -133,85 +134,103 @@ module _ (set plan : List ℕ) where
       let q : orNext (setNumber (readSet set)) (planRefusal set plan) ≡ k = ap (λ (r : SetRead). orNext (setNumber r) (planRefusal set plan)) e ∙ or-first k (planRefusal set plan) p in
       ap (λ (z : ℕ). answer z (amountOf (readSet set)) (nodesOf plan) (need (tablesOf set) (planOf plan))) q ∙ answer-refused k _ _ _ p
 
-  module _ (tables : ℕ) (s : readSet set ≡ Holds tables) where
-    from-plan : checkOf set plan ≡ answer (planRefusal set plan) tables (nodesOf plan) (need (tablesOf set) (planOf plan))
-    unfolding checkOf inputRefusal
-    from-plan = ap (λ (r : SetRead). answer (orNext (setNumber r) (planRefusal set plan)) (amountOf r) (nodesOf plan) (need (tablesOf set) (planOf plan))) s
+  module _ (tables : ℕ) where
+    abbrev known : Tables
+    known = knownTables tables set
 
-    pub check-plan : (k : ℕ) → readPlan plan ≡ PlanRefused k → checkOf set plan ≡ InputRefused k
-    unfolding planRefusal
+    -- where the set has so many tables it is the whole check
+    pub check-over : readSet set ≡ Holds tables → checkOver tables set plan ≡ checkOf set plan
+    unfolding checkOver checkOf inputRefusal planRefusal
+    check-over s =
+        sym (ap (λ (r : SetRead). answer (orNext (setNumber r) (refusalOver (knownTables (amountOf r) set) plan)) (amountOf r) (nodesOf plan) (need (knownTables (amountOf r) set) (planOf plan))) s)
+
+    pub check-plan : (k : ℕ) → readPlan plan ≡ PlanRefused k → checkOver tables set plan ≡ InputRefused k
+    unfolding checkOver
     check-plan k e =
         let p : 0 < k = plan-positive plan k e in
-        let next : ℕ = orNext (treeNumber plan) (refusal (tablesOf set) (planOf plan)) in
+        let next : ℕ = orNext (treeNumber plan) (refusal known (planOf plan)) in
         let q : orNext (planNumber (readPlan plan)) next ≡ k = ap (λ (r : PlanRead). orNext (planNumber r) next) e ∙ or-first k next p in
-        from-plan ∙ ap (λ (z : ℕ). answer z tables (nodesOf plan) (need (tablesOf set) (planOf plan))) q ∙ answer-refused k _ _ _ p
+        ap (λ (z : ℕ). answer z tables (nodesOf plan) (need known (planOf plan))) q ∙ answer-refused k _ _ _ p
 
     module _ (nodes : ℕ) (r : readPlan plan ≡ Nodes nodes) where
-      from-tree : checkOf set plan ≡ answer (orNext (treeNumber plan) (refusal (tablesOf set) (planOf plan))) tables nodes (need (tablesOf set) (planOf plan))
-      unfolding planRefusal
+      from-tree : checkOver tables set plan ≡ answer (orNext (treeNumber plan) (refusal known (planOf plan))) tables nodes (need known (planOf plan))
+      unfolding checkOver
       from-tree =
-          from-plan
-          ∙ ap (λ (z : PlanRead). answer (orNext (planNumber z) (orNext (treeNumber plan) (refusal (tablesOf set) (planOf plan)))) tables (nodesOf plan) (need (tablesOf set) (planOf plan))) r
-          ∙ ap (λ (n : ℕ). answer (orNext (treeNumber plan) (refusal (tablesOf set) (planOf plan))) tables n (need (tablesOf set) (planOf plan))) (plan-count plan nodes r)
+          ap (λ (z : PlanRead). answer (orNext (planNumber z) (orNext (treeNumber plan) (refusal known (planOf plan)))) tables (nodesOf plan) (need known (planOf plan))) r
+          ∙ ap (λ (n : ℕ). answer (orNext (treeNumber plan) (refusal known (planOf plan))) tables n (need known (planOf plan))) (plan-count plan nodes r)
 
-      pub check-tree : wholeTree plan ≡ false → checkOf set plan ≡ InputRefused 10
+      pub check-tree : wholeTree plan ≡ false → checkOver tables set plan ≡ InputRefused 10
       check-tree h = from-tree ∙ rw h
 
-      pub check-refused : wholeTree plan ≡ true → (k : ℕ) → 0 < k → refusal (tablesOf set) (planOf plan) ≡ k → checkOf set plan ≡ InputRefused k
+      pub check-refused : wholeTree plan ≡ true → (k : ℕ) → 0 < k → refusal known (planOf plan) ≡ k → checkOver tables set plan ≡ InputRefused k
       check-refused h k p e = from-tree ∙ rw (h, e) (answer-refused k _ _ _ p)
 
-      pub check-accepted : wholeTree plan ≡ true → refusal (tablesOf set) (planOf plan) ≡ 0 → checkOf set plan ≡ Accepted tables nodes (need (tablesOf set) (planOf plan))
+      pub check-accepted : wholeTree plan ≡ true → refusal known (planOf plan) ≡ 0 → checkOver tables set plan ≡ Accepted tables nodes (need known (planOf plan))
       check-accepted h e = from-tree ∙ rw (h, e)
 
 -- ---- 11 to 14 as the code meets them: place by place
 
-module _ (set plan : List ℕ) (tables nodes : ℕ) (s : readSet set ≡ Holds tables) (r : readPlan plan ≡ Nodes nodes) (w : wholeTree plan ≡ true) where
+-- the tables are those that the set was read to have, but for how many they are
+module _ (set plan : List ℕ) (tables nodes : ℕ) (r : readPlan plan ≡ Nodes nodes) (w : wholeTree plan ≡ true) where
+  abbrev K : Tables
+  K = knownTables tables set
+
   abbrev T : Tables
   T = tablesOf set
 
   abbrev n : ℕ
   n = nodesOf plan
 
-  pub check-11 : allBelow n (λ i. found T (operatorAt plan i)) ≡ false → checkOf set plan ≡ InputRefused 11
-  check-11 f = check-refused set plan tables s nodes r w 11 (omega arith) (refusal-11 T (planOf plan) (whole-found plan w T ∙ f))
+  narrow-known : all (narrow K) (subtrees (planOf plan)) ≡ allBelow n (λ i. narrow T (planAt plan i))
+  narrow-known = narrow-amount T tables (subtrees (planOf plan)) ∙ whole-all plan w (narrow T)
 
-  module _ (f : allBelow n (λ i. found T (operatorAt plan i)) ≡ true) where
-    f′ : all (found T) (flatten (planOf plan)) ≡ true
-    f′ = whole-found plan w T ∙ f
+  low-known : all (low K) (subtrees (planOf plan)) ≡ allBelow n (λ i. low T (planAt plan i))
+  low-known = low-amount T tables (subtrees (planOf plan)) ∙ whole-all plan w (low T)
 
-    twelve : once (introduced T (planOf plan)) && inView T [] (planOf plan) ≡ false → checkOf set plan ≡ InputRefused 12
-    twelve h = check-refused set plan tables s nodes r w 12 (omega arith) (refusal-12 T (planOf plan) f′ h)
+  once-known : once (introduced K (planOf plan)) ≡ once (idsOf T plan n 0)
+  once-known = ap once (introduced-amount T tables (planOf plan) ∙ whole-introduced plan w T)
 
-    pub check-12-once : once (idsOf T plan n 0) ≡ false → checkOf set plan ≡ InputRefused 12
-    check-12-once o = twelve (rw (whole-introduced plan w T, o))
+  pub check-11 : allBelow n (λ i. found K (operatorAt plan i)) ≡ false → checkOver tables set plan ≡ InputRefused 11
+  check-11 f = check-refused set plan tables nodes r w 11 (omega arith) (refusal-11 K (planOf plan) (whole-found plan w K ∙ f))
+
+  module _ (f : allBelow n (λ i. found K (operatorAt plan i)) ≡ true) where
+    f′ : all (found K) (flatten (planOf plan)) ≡ true
+    f′ = whole-found plan w K ∙ f
+
+    twelve : once (introduced K (planOf plan)) && inView K [] (planOf plan) ≡ false → checkOver tables set plan ≡ InputRefused 12
+    twelve h = check-refused set plan tables nodes r w 12 (omega arith) (refusal-12 K (planOf plan) f′ h)
+
+    pub check-12-once : once (idsOf T plan n 0) ≡ false → checkOver tables set plan ≡ InputRefused 12
+    check-12-once o = twelve (rw (once-known, o))
 
     module _ (o : once (idsOf T plan n 0) ≡ true) where
-      pub check-12-view : inView T [] (planOf plan) ≡ false → checkOf set plan ≡ InputRefused 12
-      check-12-view v = twelve (rw (whole-introduced plan w T, o, v))
+      pub check-12-view : inView T [] (planOf plan) ≡ false → checkOver tables set plan ≡ InputRefused 12
+      check-12-view v = twelve (rw (once-known, o, view-amount T tables [] (planOf plan), v))
 
       module _ (v : inView T [] (planOf plan) ≡ true) where
-        v′ : once (introduced T (planOf plan)) && inView T [] (planOf plan) ≡ true
-        v′ = rw (whole-introduced plan w T, o, v)
+        v′ : once (introduced K (planOf plan)) && inView K [] (planOf plan) ≡ true
+        v′ = rw (once-known, o, view-amount T tables [] (planOf plan), v)
 
-        pub check-13 : allBelow n (λ i. narrow T (planAt plan i)) ≡ false → checkOf set plan ≡ InputRefused 13
-        check-13 a = check-refused set plan tables s nodes r w 13 (omega arith) (refusal-13 T (planOf plan) f′ v′ (whole-all plan w (narrow T) ∙ a))
+        pub check-13 : allBelow n (λ i. narrow T (planAt plan i)) ≡ false → checkOver tables set plan ≡ InputRefused 13
+        check-13 a = check-refused set plan tables nodes r w 13 (omega arith) (refusal-13 K (planOf plan) f′ v′ (narrow-known ∙ a))
 
         module _ (a : allBelow n (λ i. narrow T (planAt plan i)) ≡ true) where
-          pub check-14 : allBelow n (λ i. low T (planAt plan i)) ≡ false → checkOf set plan ≡ InputRefused 14
+          pub check-14 : allBelow n (λ i. low T (planAt plan i)) ≡ false → checkOver tables set plan ≡ InputRefused 14
           check-14 b =
-              check-refused set plan tables s nodes r w 14 (omega arith)
-              (refusal-14 T (planOf plan) f′ v′ (whole-all plan w (narrow T) ∙ a) (whole-all plan w (low T) ∙ b))
+              check-refused set plan tables nodes r w 14 (omega arith)
+              (refusal-14 K (planOf plan) f′ v′ (narrow-known ∙ a) (low-known ∙ b))
 
-          pub check-passed : allBelow n (λ i. low T (planAt plan i)) ≡ true → checkOf set plan ≡ Accepted tables nodes (need T (planOf plan))
+          pub check-passed : allBelow n (λ i. low T (planAt plan i)) ≡ true → checkOver tables set plan ≡ Accepted tables nodes (need T (planOf plan))
           check-passed b =
-              check-accepted set plan tables s nodes r w
-              (refusal-0 T (planOf plan) (record {
+              check-accepted set plan tables nodes r w
+              (refusal-0 K (planOf plan) (record {
                 foundAll = f′;
-                introducedOnce = rw (whole-introduced plan w T) o;
-                inViewAll = v;
-                narrowAll = whole-all plan w (narrow T) ∙ a;
-                lowAll = whole-all plan w (low T) ∙ b;
+                introducedOnce = once-known ∙ o;
+                inViewAll = view-amount T tables [] (planOf plan) ∙ v;
+                narrowAll = narrow-known ∙ a;
+                lowAll = low-known ∙ b;
               }))
+              ∙ ap (Accepted tables nodes) (need-amount T tables (planOf plan))
 
 -- ---- what acceptance gives
 
@@ -231,19 +250,30 @@ refused-accepted k t n c e = let z : _≡_ {A = ℕ} 0 1 = cc in absurd (omega a
 pub accepted : (set plan : List ℕ) (tables nodes cells : ℕ) → checkOf set plan ≡ Accepted tables nodes cells → Acceptance set plan tables nodes cells
 accepted set plan tables nodes cells e = by-set (readSet set) refl
   where
-    by-number : (t n : ℕ) → readSet set ≡ Holds t → readPlan plan ≡ Nodes n → wholeTree plan ≡ true → (k : ℕ) → refusal (tablesOf set) (planOf plan) ≡ k → Acceptance set plan tables nodes cells
+    over : (t : ℕ) → readSet set ≡ Holds t → checkOver t set plan ≡ Accepted tables nodes cells
+    over t s = check-over set plan t s ∙ e
+
+    by-number : (t n : ℕ) → readSet set ≡ Holds t → readPlan plan ≡ Nodes n → wholeTree plan ≡ true → (k : ℕ) → refusal (knownTables t set) (planOf plan) ≡ k
+        → Acceptance set plan tables nodes cells
     by-number t n s r w zero z =
-        let (a, b, c) = accepted-is _ _ _ _ _ _ (sym (check-accepted set plan t s n r w z) ∙ e) in
-        record { setRead = s ∙ ap Holds a; planRead = r ∙ ap Nodes b; whole = w; passed = z; needs = sym c }
-    by-number t n s r w (suc k) z = refused-accepted (suc k) _ _ _ (sym (check-refused set plan t s n r w (suc k) (omega arith) z) ∙ e)
+        let (a, b, c) = accepted-is _ _ _ _ _ _ (sym (check-accepted set plan t n r w z) ∙ over t s) in
+        let k : tablesOf set ≡ knownTables t set = ap (λ (r : SetRead). knownTables (amountOf r) set) s in
+        record {
+          setRead = s ∙ ap Holds a;
+          planRead = r ∙ ap Nodes b;
+          whole = w;
+          passed = ap (λ (T : Tables). refusal T (planOf plan)) k ∙ z;
+          needs = sym (ap (λ (T : Tables). need T (planOf plan)) k ∙ c);
+        }
+    by-number t n s r w (suc k) z = refused-accepted (suc k) _ _ _ (sym (check-refused set plan t n r w (suc k) (omega arith) z) ∙ over t s)
 
     by-tree : (t n : ℕ) → readSet set ≡ Holds t → readPlan plan ≡ Nodes n → (b : Bool) → wholeTree plan ≡ b → Acceptance set plan tables nodes cells
-    by-tree t n s r true w = by-number t n s r w (refusal (tablesOf set) (planOf plan)) refl
-    by-tree t n s r false w = refused-accepted 10 _ _ _ (sym (check-tree set plan t s n r w) ∙ e)
+    by-tree t n s r true w = by-number t n s r w (refusal (knownTables t set) (planOf plan)) refl
+    by-tree t n s r false w = refused-accepted 10 _ _ _ (sym (check-tree set plan t n r w) ∙ over t s)
 
     by-plan : (t : ℕ) → readSet set ≡ Holds t → (p : PlanRead) → readPlan plan ≡ p → Acceptance set plan tables nodes cells
     by-plan t s (Nodes n) r = by-tree t n s r (wholeTree plan) refl
-    by-plan t s (PlanRefused k) r = refused-accepted k _ _ _ (sym (check-plan set plan t s k r) ∙ e)
+    by-plan t s (PlanRefused k) r = refused-accepted k _ _ _ (sym (check-plan set plan t k r) ∙ over t s)
 
     by-set : (r : SetRead) → readSet set ≡ r → Acceptance set plan tables nodes cells
     by-set (Holds t) s = by-plan t s (readPlan plan) refl

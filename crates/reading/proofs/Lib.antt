@@ -7,6 +7,7 @@ pub mod Decoding
 pub mod Places
 pub mod IdLaws
 pub mod Ends
+pub mod Amounts
 pub mod Acceptance
 pub mod PlanBytes
 pub mod TreeNumbers

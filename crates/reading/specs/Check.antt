@@ -3,8 +3,9 @@
 use Prim.Native.Nat.{ℕ, zero, suc}
 use mathlib.Core.List.{List}
 use Rattle.algebra.specs.Lists.{if_then_else_}
+use Rattle.algebra.specs.Plans.{Tables}
 use Rattle.algebra.specs.Refusals.{refusal, need}
-use Rattle.reading.specs.TableSet.{readSet, amountOf, tablesOf}
+use Rattle.reading.specs.TableSet.{readSet, amountOf, knownTables, tablesOf}
 use Rattle.reading.specs.Plan.{readPlan, nodesOf}
 use Rattle.reading.specs.Tree.{planOf, wholeTree}
 use Rattle.reading.specs.declared.set.SetRead.{SetRead}
@@ -35,9 +36,13 @@ orNext (suc number) next = suc number
 abbrev pub treeNumber : List ℕ → ℕ
 treeNumber plan = if wholeTree plan then 0 else 10
 
--- 6 to 14 of a plan over a set that is not turned back
+-- 6 to 14 of a plan over these tables
+abbrev pub refusalOver : Tables → List ℕ → ℕ
+refusalOver T plan = orNext (planNumber (readPlan plan)) (orNext (treeNumber plan) (refusal T (planOf plan)))
+
+-- .. over a set that is not turned back
 unfoldable pub planRefusal : List ℕ → List ℕ → ℕ
-planRefusal set plan = orNext (planNumber (readPlan plan)) (orNext (treeNumber plan) (refusal (tablesOf set) (planOf plan)))
+planRefusal set plan = refusalOver (tablesOf set) plan
 
 -- 1 to 14: the set before the plan
 unfoldable pub inputRefusal : List ℕ → List ℕ → ℕ
@@ -62,3 +67,7 @@ answer (suc number) tables nodes cells = InputRefused (suc number)
 
 unfoldable pub checkOf : List ℕ → List ℕ → Checked
 checkOf set plan = answer (inputRefusal set plan) (amountOf (readSet set)) (nodesOf plan) (need (tablesOf set) (planOf plan))
+
+-- The answer over a set that is known to have so many tables: 6 to 14 only, so that the set is read once for many plans.
+unfoldable pub checkOver : ℕ → List ℕ → List ℕ → Checked
+checkOver tables set plan = answer (refusalOver (knownTables tables set) plan) tables (nodesOf plan) (need (knownTables tables set) (planOf plan))

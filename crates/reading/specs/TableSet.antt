@@ -102,5 +102,9 @@ abbrev pub amountOf : SetRead → ℕ
 amountOf (Holds n) = n
 amountOf (Refused number) = 0
 
+-- the tables of a set that is known to have so many
+abbrev pub knownTables : ℕ → List ℕ → Tables
+knownTables known set = record { amount = known; width = λ t. columnsOf (tableFrom t set); rows = λ t. tableRows (tableFrom t set) }
+
 abbrev pub tablesOf : List ℕ → Tables
-tablesOf set = record { amount = amountOf (readSet set); width = λ t. columnsOf (tableFrom t set); rows = λ t. tableRows (tableFrom t set) }
+tablesOf set = knownTables (amountOf (readSet set)) set

@@ -1,9 +1,7 @@
 // The whole of reading: the refusals 1 to 14 of a set and a plan.
 ghost use mathlib.Core.Path.{_≡_};
-ghost use Rattle.reading.specs.TableSet.{readSet};
 ghost use Rattle.reading.specs.Plan.{readPlan};
-ghost use Rattle.reading.specs.Check.{checkOf};
-ghost use Rattle.reading.specs.declared.set.SetRead.the-variants.{Holds};
+ghost use Rattle.reading.specs.Check.{checkOf, checkOver};
 ghost use Rattle.reading.specs.declared.plan.PlanRead.the-variants.{Nodes};
 use crate::bound::bounds_low;
 use crate::columns::rows_narrow;
@@ -27,10 +25,10 @@ pub enum Checked {
     Refused(u8),
 }
 
-// 10 to 14, and the need, of a plan of n nodes that passes 6 to 9, over a set of so many tables.
+// 10 to 14, and the need, of a plan of n nodes that passes 6 to 9, over a set that is known to have so many tables.
 fn check_tree(set: &[u8], plan: &[u8], tables: usize, nodes: usize) -> Checked
-    requires { ⌜ (readSet (now set) ≡ Holds tables) × (readPlan (now plan) ≡ Nodes nodes) ⌝ }
-    ensures { λ r. ⌜ r ≡ checkOf (now (set .entry)) (now (plan .entry)) ⌝ }
+    requires { ⌜ readPlan (now plan) ≡ Nodes nodes ⌝ }
+    ensures { λ r. ⌜ r ≡ checkOver tables (now (set .entry)) (now (plan .entry)) ⌝ }
 {
     if !whole_tree(plan) {
         return Checked::Refused(10);
@@ -57,10 +55,9 @@ fn check_tree(set: &[u8], plan: &[u8], tables: usize, nodes: usize) -> Checked
     }
 }
 
-// 6 to 14 of a plan over a set of so many tables.
-fn check_plan(set: &[u8], plan: &[u8], tables: usize) -> Checked
-    requires { ⌜ readSet (now set) ≡ Holds tables ⌝ }
-    ensures { λ r. ⌜ r ≡ checkOf (now (set .entry)) (now (plan .entry)) ⌝ }
+// 6 to 14 of a plan over a set that is known to have so many tables: who checks many plans over one set reads it once.
+pub fn check_plan(set: &[u8], plan: &[u8], tables: usize) -> Checked
+    ensures { λ r. ⌜ r ≡ checkOver tables (now (set .entry)) (now (plan .entry)) ⌝ }
 {
     match read_plan(plan) {
         PlanRead::Refused(number) => Checked::Refused(number),

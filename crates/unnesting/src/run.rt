@@ -5,9 +5,10 @@ ghost use mathlib.Core.List.{[], _∷_, _++_};
 ghost use Prim.Native.Nat.{_+_, _*_, _≤_};
 ghost use lib.ListN.{length, take};
 ghost use Rattle.algebra.specs.Refusals.{need, passes};
-ghost use Rattle.reading.specs.TableSet.{tablesOf};
+ghost use Rattle.reading.specs.TableSet.{readSet, tablesOf};
 ghost use Rattle.reading.specs.Tree.{planOf};
 ghost use Rattle.reading.specs.Check.{inputRefusal};
+ghost use Rattle.reading.specs.declared.set.SetRead.the-variants.{Holds};
 ghost use Rattle.unnesting.specs.Attempts.{Runs};
 use crate::image::write_bytes;
 use crate::step::Found;
@@ -30,11 +31,12 @@ fn write_step(steps: &mut [u8], count: usize, rule: u8, place: u8)
     write_bytes(steps, 2 * count, &bytes);
 }
 
-// Runs from the plan given, whose need is known. Leaves the last plan at the front of `current`, and at the front of `steps` two bytes for each
+// Runs from the plan given, whose need and whose set's number of tables are known. Leaves the last plan at the front of `current`, and at the front of `steps` two bytes for each
 // step; `next` holds the plan after a step while it is tried. No plan takes more than 1,542 bytes, and no run more than 192 steps.
 pub(crate) fn run(
     set: &[u8],
     plan: &[u8],
+    tables: usize,
     cells: usize,
     current: &mut [u8],
     next: &mut [u8],
@@ -42,7 +44,7 @@ pub(crate) fn run(
     scratch: &mut [u32],
 ) -> Ran
     requires { ⌜ (inputRefusal (now set) (now plan) ≡ 0) × (passes (tablesOf (now set)) (planOf (now plan)) ≡ true) × (cells ≡ need (tablesOf (now set)) (planOf (now plan))) ⌝ }
-    requires { ⌜ (length (now current) ≡ 1566) × (length (now next) ≡ 1566) × (length (now steps) ≡ 384) ⌝ }
+    requires { ⌜ (length (now current) ≡ 1566) × (length (now next) ≡ 1566) × (length (now steps) ≡ 384) × (readSet (now set) ≡ Holds tables) ⌝ }
     ensures { λ r. ⌜ Runs (r .enough) (now (set .entry)) (now (plan .entry)) (length (now (scratch .entry))) (now (current .exit)) (now (steps .exit)) (r .steps) (r .length) ⌝ }
 {
     write_bytes(current, 0, plan);
@@ -50,7 +52,7 @@ pub(crate) fn run(
     let mut needed = cells;
     let mut count = 0usize;
     while needed <= scratch.len() {
-        match smallest_step(set, &current[0..bytes], next, scratch) {
+        match smallest_step(set, &current[0..bytes], tables, next, scratch) {
             Found::Nothing => {
                 return Ran {
                     enough: true,

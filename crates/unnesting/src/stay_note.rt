@@ -3,9 +3,10 @@ ghost use mathlib.Core.Path.{_≡_};
 ghost use Prim.Native.Nat.{_≤_};
 ghost use lib.ListN.{length};
 ghost use Rattle.algebra.specs.Refusals.{need};
-ghost use Rattle.reading.specs.TableSet.{tablesOf};
+ghost use Rattle.reading.specs.TableSet.{readSet, tablesOf};
 ghost use Rattle.reading.specs.Tree.{planOf};
 ghost use Rattle.reading.specs.Check.{inputRefusal};
+ghost use Rattle.reading.specs.declared.set.SetRead.the-variants.{Holds};
 ghost use Rattle.unnesting.specs.StayNote.{StayNoted, noteDue, noteOf};
 use crate::sequence::Compared;
 use crate::sequence::compares;
@@ -26,10 +27,10 @@ pub enum StayNote {
     Position(usize),
 }
 
-// The note at a place of an input that 1 to 14 do not turn back, with scratch enough.
-fn note_at(set: &[u8], plan: &[u8], place: usize, scratch: &mut [u32]) -> StayNote
+// The note at a place of an input of so many tables that 1 to 14 do not turn back, with scratch enough.
+fn note_at(set: &[u8], plan: &[u8], tables: usize, place: usize, scratch: &mut [u32]) -> StayNote
     requires { ⌜ inputRefusal (now set) (now plan) ≡ 0 ⌝ }
-    requires { ⌜ need (tablesOf (now set)) (planOf (now plan)) ≤ length (now scratch) ⌝ }
+    requires { ⌜ (need (tablesOf (now set)) (planOf (now plan)) ≤ length (now scratch)) × (readSet (now set) ≡ Holds tables) ⌝ }
     ensures { λ r. ⌜ r ≡ noteOf (noteDue (now (set .entry)) (now (plan .entry)) place) ⌝ }
 {
     if nodes_of(plan) <= place {
@@ -40,7 +41,7 @@ fn note_at(set: &[u8], plan: &[u8], place: usize, scratch: &mut [u32]) -> StayNo
         return StayNote::None;
     }
     let mut after = [0u8; 1566];
-    match possible_at(set, plan, place, node, &mut after) {
+    match possible_at(set, plan, tables, place, node, &mut after) {
         Tried::No => StayNote::None,
         Tried::Yes { length: _, need: _ } => match sequences_at(set, plan, place, node, scratch) {
             Compared::Same => StayNote::None,
@@ -56,7 +57,7 @@ pub fn stay_note(set: &[u8], plan: &[u8], place: usize, scratch: &mut [u32]) -> 
     match check_input(set, plan) {
         Checked::Refused(number) => StayNote::Refused(number),
         Checked::Accepted {
-            tables: _,
+            tables,
             nodes: _,
             need,
         } => {
@@ -64,7 +65,7 @@ pub fn stay_note(set: &[u8], plan: &[u8], place: usize, scratch: &mut [u32]) -> 
                 clear(scratch);
                 return StayNote::Refused(16);
             }
-            let note = note_at(set, plan, place, scratch);
+            let note = note_at(set, plan, tables, place, scratch);
             clear(scratch);
             note
         }

@@ -6,17 +6,18 @@ ghost use lib.ListN.{length};
 ghost use Rattle.algebra.specs.Refusals.{need, passes};
 ghost use Rattle.algebra.specs.Rules.{numberAt};
 ghost use Rattle.algebra.specs.Steps.{attempt};
-ghost use Rattle.reading.specs.TableSet.{tablesOf};
+ghost use Rattle.reading.specs.TableSet.{readSet, tablesOf};
 ghost use Rattle.reading.specs.Plan.{nodeAt, nodesOf};
 ghost use Rattle.reading.specs.Tree.{planOf};
 ghost use Rattle.reading.specs.Check.{inputRefusal};
+ghost use Rattle.reading.specs.declared.set.SetRead.the-variants.{Holds};
 ghost use Rattle.unnesting.specs.Attempts.{Finds, Tells, possible};
 use crate::change::write_change;
 use crate::sequence::ready_at;
 use crate::shape::rule_of;
 use crate::shape::shape_at;
 use reading::input::Checked;
-use reading::input::check_input;
+use reading::input::check_plan;
 use reading::plan::Node;
 use reading::plan::node_at;
 use reading::tree::nodes_of;
@@ -38,9 +39,17 @@ pub enum Found {
     },
 }
 
-// The plan after the rule at place i, where rows do not stand against it and it passes 8 to 14.
-pub(crate) fn possible_at(set: &[u8], plan: &[u8], i: usize, node: Node, out: &mut [u8]) -> Tried
-    requires { ⌜ (inputRefusal (now set) (now plan) ≡ 0) × (passes (tablesOf (now set)) (planOf (now plan)) ≡ true) ⌝ }
+// The plan after the rule at place i, where rows do not stand against it and it passes 8 to 14. The set, which has so many tables, was read
+// before: it is the same for every plan of a run.
+pub(crate) fn possible_at(
+    set: &[u8],
+    plan: &[u8],
+    tables: usize,
+    i: usize,
+    node: Node,
+    out: &mut [u8],
+) -> Tried
+    requires { ⌜ (inputRefusal (now set) (now plan) ≡ 0) × (passes (tablesOf (now set)) (planOf (now plan)) ≡ true) × (readSet (now set) ≡ Holds tables) ⌝ }
     requires { ⌜ (i < nodesOf (now plan)) × (node ≡ nodeAt (now plan) i) × (length (now out) ≡ 1566) ⌝ }
     ensures { λ r. ⌜ Tells (now (set .entry)) (now (out .exit)) (possible (tablesOf (now (set .entry))) (planOf (now (plan .entry))) i) r ⌝ }
 {
@@ -49,7 +58,7 @@ pub(crate) fn possible_at(set: &[u8], plan: &[u8], i: usize, node: Node, out: &m
         return Tried::No;
     }
     let length = write_change(plan, i, shape.change, out);
-    match check_input(set, &out[0..length]) {
+    match check_plan(set, &out[0..length], tables) {
         Checked::Refused(_) => Tried::No,
         Checked::Accepted {
             tables: _,
@@ -63,17 +72,18 @@ pub(crate) fn possible_at(set: &[u8], plan: &[u8], i: usize, node: Node, out: &m
 fn step_at(
     set: &[u8],
     plan: &[u8],
+    tables: usize,
     i: usize,
     node: Node,
     out: &mut [u8],
     scratch: &mut [u32],
 ) -> Tried
-    requires { ⌜ (inputRefusal (now set) (now plan) ≡ 0) × (passes (tablesOf (now set)) (planOf (now plan)) ≡ true) ⌝ }
+    requires { ⌜ (inputRefusal (now set) (now plan) ≡ 0) × (passes (tablesOf (now set)) (planOf (now plan)) ≡ true) × (readSet (now set) ≡ Holds tables) ⌝ }
     requires { ⌜ (i < nodesOf (now plan)) × (node ≡ nodeAt (now plan) i) × (length (now out) ≡ 1566) ⌝ }
     requires { ⌜ need (tablesOf (now set)) (planOf (now plan)) ≤ length (now scratch) ⌝ }
     ensures { λ r. ⌜ Tells (now (set .entry)) (now (out .exit)) (attempt (tablesOf (now (set .entry))) (record { number = numberAt (planOf (now (plan .entry))) i; place = i }) (planOf (now (plan .entry)))) r ⌝ }
 {
-    match possible_at(set, plan, i, node, out) {
+    match possible_at(set, plan, tables, i, node, out) {
         Tried::No => Tried::No,
         Tried::Yes { length, need } => {
             if !ready_at(set, plan, i, node, scratch) {
@@ -85,8 +95,14 @@ fn step_at(
 }
 
 // The step at the smallest place where a rule fits. At a place only the rule that its node names can fit.
-pub(crate) fn smallest_step(set: &[u8], plan: &[u8], out: &mut [u8], scratch: &mut [u32]) -> Found
-    requires { ⌜ (inputRefusal (now set) (now plan) ≡ 0) × (passes (tablesOf (now set)) (planOf (now plan)) ≡ true) ⌝ }
+pub(crate) fn smallest_step(
+    set: &[u8],
+    plan: &[u8],
+    tables: usize,
+    out: &mut [u8],
+    scratch: &mut [u32],
+) -> Found
+    requires { ⌜ (inputRefusal (now set) (now plan) ≡ 0) × (passes (tablesOf (now set)) (planOf (now plan)) ≡ true) × (readSet (now set) ≡ Holds tables) ⌝ }
     requires { ⌜ (need (tablesOf (now set)) (planOf (now plan)) ≤ length (now scratch)) × (length (now out) ≡ 1566) ⌝ }
     ensures { λ r. ⌜ Finds (now (set .entry)) (now (out .exit)) (planOf (now (plan .entry))) r ⌝ }
 {
@@ -94,7 +110,7 @@ pub(crate) fn smallest_step(set: &[u8], plan: &[u8], out: &mut [u8], scratch: &m
     let mut i = 0;
     while i < n {
         let node = node_at(plan, i);
-        match step_at(set, plan, i, node, out, scratch) {
+        match step_at(set, plan, tables, i, node, out, scratch) {
             Tried::Yes { length, need } => {
                 return Found::Step {
                     rule: rule_of(node),

@@ -2,9 +2,10 @@
 ghost use mathlib.Core.Path.{_≡_};
 ghost use lib.ListN.{length};
 ghost use Rattle.algebra.specs.Refusals.{need};
-ghost use Rattle.reading.specs.TableSet.{tablesOf};
+ghost use Rattle.reading.specs.TableSet.{readSet, tablesOf};
 ghost use Rattle.reading.specs.Tree.{planOf};
 ghost use Rattle.reading.specs.Check.{inputRefusal};
+ghost use Rattle.reading.specs.declared.set.SetRead.the-variants.{Holds};
 ghost use Rattle.unnesting.specs.Unnest.{Unnested as Answered};
 use crate::image::write_bytes;
 use crate::run::run;
@@ -29,16 +30,17 @@ fn refused(number: u8) -> Unnested
     }
 }
 
-// Unnests an input that 1 to 14 do not turn back and that needs so many cells of scratch. 16 is tested before 15.
+// Unnests an input of so many tables that 1 to 14 do not turn back and that needs so many cells of scratch. 16 is tested before 15.
 fn unnest_accepted(
     set: &[u8],
     plan: &[u8],
+    tables: usize,
     cells: usize,
     out_plan: &mut [u8],
     out_steps: &mut [u8],
     scratch: &mut [u32],
 ) -> Unnested
-    requires { ⌜ (inputRefusal (now set) (now plan) ≡ 0) × (cells ≡ need (tablesOf (now set)) (planOf (now plan))) ⌝ }
+    requires { ⌜ (inputRefusal (now set) (now plan) ≡ 0) × (cells ≡ need (tablesOf (now set)) (planOf (now plan))) × (readSet (now set) ≡ Holds tables) ⌝ }
     ensures { λ r. ⌜ Answered (now (set .entry)) (now (plan .entry)) (now («out_plan» .entry)) (now («out_plan» .exit)) (now («out_steps» .entry)) (now («out_steps» .exit)) (now (scratch .entry)) (now (scratch .exit)) (r .refusal) (r .steps) (r .bytes) ⌝ }
 {
     let mut current = [0u8; 1566];
@@ -47,6 +49,7 @@ fn unnest_accepted(
     let ran = run(
         set,
         plan,
+        tables,
         cells,
         &mut current,
         &mut next,
@@ -87,9 +90,9 @@ pub fn unnest(
     match check_input(set, plan) {
         Checked::Refused(number) => refused(number),
         Checked::Accepted {
-            tables: _,
+            tables,
             nodes: _,
             need,
-        } => unnest_accepted(set, plan, need, out_plan, out_steps, scratch),
+        } => unnest_accepted(set, plan, tables, need, out_plan, out_steps, scratch),
     }
 }

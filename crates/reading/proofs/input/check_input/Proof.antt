@@ -1,5 +1,5 @@
 use mathlib.Core.Path.{sym, _∙_}
-use Rattle.reading.proofs.Acceptance.{check-set}
+use Rattle.reading.proofs.Acceptance.{check-set, check-over}
 use borrow.Author.Needs.{needs}
 use Rattle.reading.proofs.input.check_input.Statement.{statement}
 use Rattle.reading.proofs.input.check_input.Tie as tie
@@ -22,7 +22,7 @@ enum-known-tables c = search needs
 
 -- src/input.rt:78:35
 check-plan-requires : tie.Need-check-plan-requires
-check-plan-requires c κs = sym (c .before .before .before .read-set .ensures) ∙ c .before .tables .given .1
+check-plan-requires c κs = search needs
 
 -- src/input.rt:73:1
 returns : tie.Need-returns
@@ -32,7 +32,9 @@ returns c =
 
 -- src/input.rt:73:1
 returns-2 : tie.Need-returns-2
-returns-2 c = search needs
+returns-2 c =
+    let a = c .before .before .before .before .before .before .before .args in
+    c .check-plan .ensures ∙ check-over (a .set .now) (a .plan .now) _ (sym (c .before .before .before .before .read-set .ensures) ∙ c .before .before .tables .given .1)
 
 pub check-input-spec : {M : Type 1} → statement M
 check-input-spec =

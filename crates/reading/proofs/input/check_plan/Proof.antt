@@ -22,13 +22,13 @@ enum-known-nodes c = search needs
 
 -- src/input.rt:68:35
 check-tree-requires : tie.Need-check-tree-requires
-check-tree-requires c κs = (c .before .before .before .before .before .before .pre, sym (c .before .before .before .read-plan .ensures) ∙ c .before .nodes .given .1)
+check-tree-requires c κs = sym (c .before .before .before .read-plan .ensures) ∙ c .before .nodes .given .1
 
 -- src/input.rt:62:1
 returns : tie.Need-returns
 returns c =
     let a = c .before .before .before .before .before .before .args in
-    sym (check-plan (a .set .now) (a .plan .now) (a .tables) (c .before .before .before .before .before .before .pre) _ (sym (c .before .before .before .read-plan .ensures) ∙ c .before .number .given .1))
+    sym (check-plan (a .set .now) (a .plan .now) (a .tables) _ (sym (c .before .before .before .read-plan .ensures) ∙ c .before .number .given .1))
 
 -- src/input.rt:62:1
 returns-2 : tie.Need-returns-2

@@ -18,10 +18,10 @@ use Rattle.unnesting.proofs.run.write_step.Reads as write-step-reads
 use Rattle.unnesting.proofs.step.smallest_step.Reads as smallest-step-reads
 
 abbrev Inv-loop : tie.InvT-loop
-Inv-loop set plan cells current₀ next₀ steps₀ scratch₀ bytes₀ needed₀ count₀ current next steps scratch bytes needed count = (length current ≡ length current₀) × (length next ≡ length next₀) × (length steps ≡ length steps₀) × (length scratch ≡ length scratch₀) × Running set plan (length scratch₀) current steps bytes needed count
+Inv-loop set plan tables cells current₀ next₀ steps₀ scratch₀ bytes₀ needed₀ count₀ current next steps scratch bytes needed count = (length current ≡ length current₀) × (length next ≡ length next₀) × (length steps ≡ length steps₀) × (length scratch ≡ length scratch₀) × Running set plan (length scratch₀) current steps bytes needed count
 
 abbrev μ-loop : tie.MeasureT-loop
-μ-loop set plan cells current₀ next₀ steps₀ scratch₀ bytes₀ needed₀ count₀ current next steps scratch bytes needed count = 192 - count
+μ-loop set plan tables cells current₀ next₀ steps₀ scratch₀ bytes₀ needed₀ count₀ current next steps scratch bytes needed count = 192 - count
 
 whole : (c : tie.At-loop Inv-loop μ-loop) → take (c .loop .bytes - 0) (c .loop .current) ≡ take (c .loop .bytes) (c .loop .current)
 whole c = let z : c .loop .bytes - 0 ≡ c .loop .bytes = omega arith in rw z
@@ -29,7 +29,7 @@ whole c = let z : c .loop .bytes - 0 ≡ c .loop .bytes = omega arith in rw z
 fits : (c : tie.In-loop Inv-loop μ-loop) → c .before .loop .needed ≤ length (c .before .before .before .before .before .before .before .before .before .before .before .before .args .scratch .now)
 fits c = omega (arith, c .loop-test .taken, c .before .loop .inv .3)
 
-step : (c : tie.After-rule Inv-loop μ-loop) → Smallest (c .before .before .before .before .before .before .before .before .before .before .before .before .before .before .before .before .before .before .before .before .before .before .before .args .set .now) (c .before .before .before .before .before .before .smallest-step .last .1 .1 .0) (planOf (take (c .before .before .before .before .before .before .before .before .before .before .before .before .loop .bytes - 0) (c .before .before .before .before .before .before .before .before .before .before .before .before .loop .current))) (c .rule .given .0 .0) (c .rule .given .0 .1 .0) (c .rule .given .0 .1 .1 .0) (c .rule .given .0 .1 .1 .1 .0)
+step : (c : tie.After-rule Inv-loop μ-loop) → Smallest (c .before .before .before .before .before .before .before .before .before .before .before .before .before .before .before .before .before .before .before .before .before .before .before .args .set .now) (c .before .before .before .before .before .before .smallest-step .last .1 .1 .1 .0) (planOf (take (c .before .before .before .before .before .before .before .before .before .before .before .before .loop .bytes - 0) (c .before .before .before .before .before .before .before .before .before .before .before .before .loop .current))) (c .rule .given .0 .0) (c .rule .given .0 .1 .0) (c .rule .given .0 .1 .1 .0) (c .rule .given .0 .1 .1 .1 .0)
 step c = finds-step _ _ _ _ _ _ _ _ (c .before .before .before .before .before .before .smallest-step .ensures) (c .rule .given .1)
 
 room : (c : tie.After-rule Inv-loop μ-loop) → c .before .before .before .before .before .before .before .before .before .before .before .before .loop .count + 1 ≤ 192
@@ -69,7 +69,7 @@ smallest-step-requires c κs =
     let a = s .args in
     let l = c .before .before .before .before .before .loop in
     let h = held (a .set .now) (a .plan .now) (s .pre .0 .0) _ _ _ _ _ _ _ (l .inv .4) (whole (c .before .before .before .before .before)) in
-    ((h .allowed, h .passed), (omega (arith, h .needs, c .before .before .before .before .loop-test .taken), omega (arith, l .inv .1, s .pre .1 .1)))
+    ((h .allowed, h .passed, s .pre .1 .3), (omega (arith, h .needs, c .before .before .before .before .loop-test .taken), omega (arith, l .inv .1, s .pre .1 .1)))
 
 -- src/run.rt:55:17
 enum-told : tie.Need-enum-told Inv-loop μ-loop
@@ -117,11 +117,11 @@ part-write-bytes-start c = search needs
 
 -- src/run.rt:68:41
 part-write-bytes-end : tie.Need-part-write-bytes-end Inv-loop μ-loop
-part-write-bytes-end c = omega (arith, step (c .before .before .before .before .before .before .before) .left .stored .short, c .before .before .before .before .before .before .before .before .before .before .before .before .before .smallest-step .kept .1 .1 .0, c .before .before .before .before .before .before .before .before .before .before .before .before .before .before .before .before .before .before .before .loop .inv .1, c .before .before .before .before .before .before .before .before .before .before .before .before .before .before .before .before .before .before .before .before .before .before .before .before .before .before .before .before .before .before .pre .1 .1)
+part-write-bytes-end c = omega (arith, step (c .before .before .before .before .before .before .before) .left .stored .short, c .before .before .before .before .before .before .before .before .before .before .before .before .before .smallest-step .kept .1 .1 .1 .0, c .before .before .before .before .before .before .before .before .before .before .before .before .before .before .before .before .before .before .before .loop .inv .1, c .before .before .before .before .before .before .before .before .before .before .before .before .before .before .before .before .before .before .before .before .before .before .before .before .before .before .before .before .before .before .pre .1 .1)
 
 -- src/run.rt:68:17
 write-bytes-requires-2 : tie.Need-write-bytes-requires-2 Inv-loop μ-loop
-write-bytes-requires-2 c κs = omega (arith, length-take (c .before .before .before .before .before .before .before .before .rule .given .0 .1 .1 .0 - 0) (c .before .before .before .before .before .before .before .before .before .before .before .before .before .before .smallest-step .last .1 .1 .0), step (c .before .before .before .before .before .before .before .before) .left .stored .short, c .before .before .before .before .before .before .before .before .before .before .before .before .before .before .before .before .before .before .before .before .loop .inv .0, c .before .before .before .before .before .before .before .before .before .before .before .before .before .before .before .before .before .before .before .before .before .before .before .before .before .before .before .before .before .before .before .pre .1 .0, c .before .before .before .before .before .before .before .before .before .before .before .before .before .before .before .before .before .before .before .before .before .before .before .write-bytes .kept .0)
+write-bytes-requires-2 c κs = omega (arith, length-take (c .before .before .before .before .before .before .before .before .rule .given .0 .1 .1 .0 - 0) (c .before .before .before .before .before .before .before .before .before .before .before .before .before .before .smallest-step .last .1 .1 .1 .0), step (c .before .before .before .before .before .before .before .before) .left .stored .short, c .before .before .before .before .before .before .before .before .before .before .before .before .before .before .before .before .before .before .before .before .loop .inv .0, c .before .before .before .before .before .before .before .before .before .before .before .before .before .before .before .before .before .before .before .before .before .before .before .before .before .before .before .before .before .before .before .pre .1 .0, c .before .before .before .before .before .before .before .before .before .before .before .before .before .before .before .before .before .before .before .before .before .before .before .write-bytes .kept .0)
 
 -- src/run.rt:69:17
 add-count : tie.Need-add-count Inv-loop μ-loop
@@ -139,7 +139,7 @@ loop-again c =
     let l = c .before .before .before .before .before .before .before .before .before .before .before .before .before .before .before .before .before .before .before .before .before .before .before .loop in
     let e = c .before .before .before .before .before .before .before .before .before .before .before .before .before .before .before .before .before .smallest-step in
     let n = step (c .before .before .before .before .before .before .before .before .before .before .before) in
-    (omega (arith, l .inv .0, c .before .before .write-bytes2 .kept .0), omega (arith, l .inv .1, e .kept .1 .1 .0), omega (arith, l .inv .2, c .before .before .before .before .before .before .before .before .write-step .kept .0), omega (arith, l .inv .3, e .kept .1 .1 .1 .0), running-step (a .set .now) (a .plan .now) (s .pre .0 .0) _ _ _ _ _ _ _ (l .inv .4) (whole (c .before .before .before .before .before .before .before .before .before .before .before .before .before .before .before .before .before .before .before .before .before .before .before)) (fits (c .before .before .before .before .before .before .before .before .before .before .before .before .before .before .before .before .before .before .before .before .before .before)) _ _ _ _ _ n _ _ (ap (take (c .before .before .before .before .before .before .before .before .before .before .before .rule .given .0 .1 .1 .0)) (c .before .before .write-bytes2 .ensures) ∙ front-part (l .current) (e .last .1 .1 .0) (c .before .before .before .before .before .before .before .before .before .before .before .rule .given .0 .1 .1 .0) (omega (arith, n .left .stored .short, e .kept .1 .1 .0, l .inv .1, s .pre .1 .1))) (c .before .before .before .before .before .before .before .before .write-step .ensures))
+    (omega (arith, l .inv .0, c .before .before .write-bytes2 .kept .0), omega (arith, l .inv .1, e .kept .1 .1 .1 .0), omega (arith, l .inv .2, c .before .before .before .before .before .before .before .before .write-step .kept .0), omega (arith, l .inv .3, e .kept .1 .1 .1 .1 .0), running-step (a .set .now) (a .plan .now) (s .pre .0 .0) _ _ _ _ _ _ _ (l .inv .4) (whole (c .before .before .before .before .before .before .before .before .before .before .before .before .before .before .before .before .before .before .before .before .before .before .before)) (fits (c .before .before .before .before .before .before .before .before .before .before .before .before .before .before .before .before .before .before .before .before .before .before)) _ _ _ _ _ n _ _ (ap (take (c .before .before .before .before .before .before .before .before .before .before .before .rule .given .0 .1 .1 .0)) (c .before .before .write-bytes2 .ensures) ∙ front-part (l .current) (e .last .1 .1 .1 .0) (c .before .before .before .before .before .before .before .before .before .before .before .rule .given .0 .1 .1 .0) (omega (arith, n .left .stored .short, e .kept .1 .1 .1 .0, l .inv .1, s .pre .1 .1))) (c .before .before .before .before .before .before .before .before .write-step .ensures))
 
 -- src/run.rt:35:1
 same-length-5 : tie.Need-same-length-5 Inv-loop μ-loop

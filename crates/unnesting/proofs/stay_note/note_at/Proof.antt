@@ -37,7 +37,7 @@ rule c = c .compares .ensures ∙ ap comparing (c .before .rule-of .ensures ∙ 
 compared : (c : tie.Else2) → comparing (ruleOf (planAt (c .before .before .before .before .before .before .before .before .before .args .plan .now) (c .before .before .before .before .before .before .before .before .before .args .place))) ≡ true
 compared c = sym (rule (c .before)) ∙ not-false _ (c .if2 .left)
 
-left : (c : tie.After-enum-told2) → Left (c .before .before .before .before .before .before .before .before .before .before .before .before .before .before .args .set .now) (c .before .before .before .possible-at .last .1 .1 .1 .1 .0) (possible (tablesOf (c .before .before .before .before .before .before .before .before .before .before .before .before .before .before .args .set .now)) (planOf (c .before .before .before .before .before .before .before .before .before .before .before .before .before .before .args .plan .now)) (c .before .before .before .before .before .before .before .before .before .before .before .before .before .before .args .place)) (c .enum-told2 .given .0 .0) (c .enum-told2 .given .0 .1 .0)
+left : (c : tie.After-enum-told2) → Left (c .before .before .before .before .before .before .before .before .before .before .before .before .before .before .args .set .now) (c .before .before .before .possible-at .last .1 .1 .1 .1 .1 .0) (possible (tablesOf (c .before .before .before .before .before .before .before .before .before .before .before .before .before .before .args .set .now)) (planOf (c .before .before .before .before .before .before .before .before .before .before .before .before .before .before .args .plan .now)) (c .before .before .before .before .before .before .before .before .before .before .before .before .before .before .args .place)) (c .enum-told2 .given .0 .0) (c .enum-told2 .given .0 .1 .0)
 left c = tells-left _ _ _ _ _ _ (c .before .before .before .possible-at .ensures) (c .enum-told2 .given .1)
 
 -- src/stay_note.rt:37:8
@@ -77,7 +77,7 @@ possible-at-requires : tie.Need-possible-at-requires
 possible-at-requires c κs =
     let s = c .before .before .before .before .before .before .before .before .before .before in
     let a = s .args in
-    ((s .pre .0, accepted-passes (a .set .now) (a .plan .now) (input-parts (a .set .now) (a .plan .now) (s .pre .0) .1) (λ k. omega (arith, c .before .before .before .before .before .before .before .before .shared-slice-known2 .given k))), (inside (c .before .before .before .before .before), c .before .before .before .before .node-at .ensures, omega arith))
+    ((s .pre .0, accepted-passes (a .set .now) (a .plan .now) (input-parts (a .set .now) (a .plan .now) (s .pre .0) .1) (λ k. omega (arith, c .before .before .before .before .before .before .before .before .shared-slice-known2 .given k)), s .pre .1 .1), (inside (c .before .before .before .before .before), c .before .before .before .before .node-at .ensures, omega arith))
 
 -- src/stay_note.rt:46:22
 enum-told : tie.Need-enum-told
@@ -92,7 +92,7 @@ sequences-at-requires : tie.Need-sequences-at-requires
 sequences-at-requires c κs =
     let s = c .before .before .before .before .before .before .before .before .before .before .before .before .before .before .before in
     let a = s .args in
-    (s .pre .0, (omega (arith, s .pre .1), ((inside (c .before .before .before .before .before .before .before .before .before .before), c .before .before .before .before .before .before .before .before .before .node-at .ensures, compared (c .before .before .before .before .before .before)), left-shape (a .set .now) (a .plan .now) (s .pre .0) (a .place) (inside (c .before .before .before .before .before .before .before .before .before .before)) _ _ _ (left (c .before)))))
+    (s .pre .0, (omega (arith, s .pre .1 .0), ((inside (c .before .before .before .before .before .before .before .before .before .before), c .before .before .before .before .before .before .before .before .before .node-at .ensures, compared (c .before .before .before .before .before .before)), left-shape (a .set .now) (a .plan .now) (s .pre .0) (a .place) (inside (c .before .before .before .before .before .before .before .before .before .before)) _ _ _ (left (c .before)))))
 
 -- src/stay_note.rt:51:31
 enum-told-3 : tie.Need-enum-told-3

@@ -5,8 +5,10 @@ use lib.ListN.{replicate}
 use Rattle.reporting.proofs.Reports.{accepted-input}
 use Rattle.reading.specs.Check.{inputRefusal}
 use Rattle.algebra.specs.Refusals.{need}
-use Rattle.reading.specs.TableSet.{tablesOf}
+use Rattle.reading.specs.TableSet.{readSet, tablesOf}
 use Rattle.reading.specs.Tree.{planOf}
+use Rattle.reading.specs.declared.set.SetRead.the-variants.{Holds}
+use Rattle.reading.proofs.Acceptance.{accepted}
 use Rattle.unnesting.proofs.NoteLaws.{note-turned-back, note-short, note-given}
 use borrow.Author.Needs.{needs}
 use Rattle.unnesting.proofs.stay_note.stay_note.Statement.{statement}
@@ -17,8 +19,11 @@ use Rattle.reading.proofs.input.check_input.Reads as check-input-reads
 use Rattle.reporting.proofs.output.clear.Reads as clear-reads
 use Rattle.unnesting.proofs.stay_note.note_at.Reads as note-at-reads
 
-input : (c : tie.After-need) → (inputRefusal (c .before .before .before .before .before .before .args .set .now) (c .before .before .before .before .before .before .args .plan .now) ≡ 0) × (c .need .given .0 .1 .1 .0 ≡ need (tablesOf (c .before .before .before .before .before .before .args .set .now)) (planOf (c .before .before .before .before .before .before .args .plan .now)))
-input c = accepted-input (c .before .before .before .before .before .before .args .set .now) (c .before .before .before .before .before .before .args .plan .now) _ _ _ (sym (c .before .before .check-input .ensures) ∙ c .need .given .1)
+input : (c : tie.After-tables) → (inputRefusal (c .before .before .before .before .before .before .args .set .now) (c .before .before .before .before .before .before .args .plan .now) ≡ 0) × (c .tables .given .0 .1 .1 .0 ≡ need (tablesOf (c .before .before .before .before .before .before .args .set .now)) (planOf (c .before .before .before .before .before .before .args .plan .now)))
+input c = accepted-input (c .before .before .before .before .before .before .args .set .now) (c .before .before .before .before .before .before .args .plan .now) _ _ _ (sym (c .before .before .check-input .ensures) ∙ c .tables .given .1)
+
+read : (c : tie.After-tables) → readSet (c .before .before .before .before .before .before .args .set .now) ≡ Holds (c .tables .given .0 .0)
+read c = accepted (c .before .before .before .before .before .before .args .set .now) (c .before .before .before .before .before .before .args .plan .now) _ _ _ (sym (c .before .before .check-input .ensures) ∙ c .tables .given .1) .setRead
 
 -- src/stay_note.rt:61:11
 check-input-requires : tie.Need-check-input-requires
@@ -29,8 +34,8 @@ enum-known-number : tie.Need-enum-known-number
 enum-known-number c = search needs
 
 -- src/stay_note.rt:66:13
-enum-known-need : tie.Need-enum-known-need
-enum-known-need c = search needs
+enum-known-tables : tie.Need-enum-known-tables
+enum-known-tables c = search needs
 
 -- src/stay_note.rt:69:17
 clear-requires : tie.Need-clear-requires
@@ -51,7 +56,7 @@ returns c =
 note-at-requires : tie.Need-note-at-requires
 note-at-requires c κs =
     let i = input (c .before .before .before) in
-    (i .0, omega (arith, i .1, c .before .if1 .left))
+    (i .0, (omega (arith, i .1, c .before .if1 .left), read (c .before .before .before)))
 
 -- src/stay_note.rt:73:13
 clear-requires-2 : tie.Need-clear-requires-2
@@ -73,7 +78,7 @@ returns-3 c =
     let a = c .before .before .before .before .before .before .before .before .before .before .before .before .before .before .before .before .args in
     let i = input (c .before .before .before .before .before .before .before .before .before .before) in
     let n = c .before .before .before .before .before .before .note-at in
-    note-given (a .set .now) (a .plan .now) (a .place) (a .scratch .now) _ _ (i .0) (c .before .before .clear2 .ensures ∙ ap (λ (k : ℕ). replicate k 0) (n .kept .1 .1 .1 .0)) (omega (arith, i .1, c .before .before .before .before .before .before .before .before .if1 .left)) (n .ensures)
+    note-given (a .set .now) (a .plan .now) (a .place) (a .scratch .now) _ _ (i .0) (c .before .before .clear2 .ensures ∙ ap (λ (k : ℕ). replicate k 0) (n .kept .1 .1 .1 .1 .0)) (omega (arith, i .1, c .before .before .before .before .before .before .before .before .if1 .left)) (n .ensures)
 
 pub stay-note-spec : {M : Type 1} → statement M
 stay-note-spec =
@@ -81,7 +86,7 @@ stay-note-spec =
     (tie.spec
     check-input-requires
     enum-known-number
-    enum-known-need
+    enum-known-tables
     clear-requires
     same-length
     returns

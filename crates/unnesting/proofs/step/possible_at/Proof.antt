@@ -8,6 +8,7 @@ use Rattle.algebra.specs.Rules.{fresh}
 use Rattle.reading.specs.TableSet.{tablesOf}
 use Rattle.reading.specs.Tree.{planOf}
 use Rattle.reading.proofs.PlanBytes.{plan-passed}
+use Rattle.reading.proofs.Acceptance.{check-over}
 use Rattle.unnesting.specs.Shapes.{Makes}
 use Rattle.unnesting.proofs.Demand3.{input-parts}
 use Rattle.unnesting.proofs.CandidateLaws.{fit-none, fit-made, possible-none, tried-no, tried-yes}
@@ -16,19 +17,20 @@ use Rattle.unnesting.proofs.step.possible_at.Statement.{statement}
 use Rattle.unnesting.proofs.step.possible_at.Tie as tie
 use Rattle.unnesting.proofs.step.possible_at.Reads as reads
 use Rattle.unnesting.proofs.step.possible_at.Lts as lts
-use Rattle.reading.proofs.input.check_input.Reads as check-input-reads
+use Rattle.reading.proofs.input.check_plan.Reads as check-plan-reads
 use Rattle.unnesting.proofs.change.write_change.Reads as write-change-reads
 use Rattle.unnesting.proofs.shape.shape_at.Reads as shape-at-reads
 
 made : (c : tie.Else1) → Makes (tablesOf (c .before .before .before .before .before .before .args .set .now)) (fresh (tablesOf (c .before .before .before .before .before .before .args .set .now)) (planOf (c .before .before .before .before .before .before .args .plan .now))) (c .before .before .before .before .before .before .args .plan .now) (c .before .before .before .before .before .before .args .i) (c .before .before .shape-at .result .change)
 made c = let a = c .before .before .before .before .before .before .args in fit-made (tablesOf (a .set .now)) (fresh (tablesOf (a .set .now)) (planOf (a .plan .now))) (a .plan .now) (a .i) (c .before .before .shape-at .result) (c .before .before .shape-at .ensures) (not-false _ (c .if1 .left))
 
-told : (c : tie.After-check-input) → c .check-input .result ≡ checkOf (c .before .before .before .before .before .before .before .before .before .before .before .before .before .args .set .now) (take (c .before .before .before .before .before .write-change .result) (c .before .before .before .before .before .write-change .last .1 .1 .1 .0))
+told : (c : tie.After-check-plan) → c .check-plan .result ≡ checkOf (c .before .before .before .before .before .before .before .before .before .before .before .before .before .args .set .now) (take (c .before .before .before .before .before .write-change .result) (c .before .before .before .before .before .write-change .last .1 .1 .1 .0))
 told c =
     let r = c .before .before .before .before .before .write-change .result in
     let l = c .before .before .before .before .before .write-change .last .1 .1 .1 .0 in
     let z : r - 0 ≡ r = omega arith in
-    subst (λ (n : ℕ). c .check-input .result ≡ checkOf (c .before .before .before .before .before .before .before .before .before .before .before .before .before .args .set .now) (take n l)) z (c .check-input .ensures)
+    subst (λ (n : ℕ). c .check-plan .result ≡ checkOf (c .before .before .before .before .before .before .before .before .before .before .before .before .before .args .set .now) (take n l)) z
+    (c .check-plan .ensures ∙ check-over (c .before .before .before .before .before .before .before .before .before .before .before .before .before .args .set .now) (take (r - 0) l) _ (c .before .before .before .before .before .before .before .before .before .before .before .before .before .pre .0 .2))
 
 -- src/step.rt:50:9
 shape-at-requires : tie.Need-shape-at-requires
@@ -51,23 +53,23 @@ write-change-requires c κs =
     (made (c .before) .inside, p .known .long, omega (arith, s .pre .1 .2))
 
 -- src/step.rt:55:28
-sub-check-input : tie.Need-sub-check-input
-sub-check-input c = search needs
+sub-check-plan : tie.Need-sub-check-plan
+sub-check-plan c = search needs
 
 -- src/step.rt:55:28
-part-check-input-start : tie.Need-part-check-input-start
-part-check-input-start c = search needs
+part-check-plan-start : tie.Need-part-check-plan-start
+part-check-plan-start c = search needs
 
 -- src/step.rt:55:28
-part-check-input-end : tie.Need-part-check-input-end
-part-check-input-end c =
+part-check-plan-end : tie.Need-part-check-plan-end
+part-check-plan-end c =
     let s = c .before .before .before .before .before .before .before .before .before .before .before in
     let e = c .before .before .before .write-change in
     omega (arith, made (c .before .before .before .before .before) .inside .count, e .ensures .0, e .kept .1 .1 .1 .0, s .pre .1 .2)
 
 -- src/step.rt:55:11
-check-input-requires : tie.Need-check-input-requires
-check-input-requires c κs = search needs
+check-plan-requires : tie.Need-check-plan-requires
+check-plan-requires c κs = search needs
 
 -- src/step.rt:56:32
 enum-told : tie.Need-enum-told
@@ -108,10 +110,10 @@ possible-at-spec =
     shape-at-requires
     returns
     write-change-requires
-    sub-check-input
-    part-check-input-start
-    part-check-input-end
-    check-input-requires
+    sub-check-plan
+    part-check-plan-start
+    part-check-plan-end
+    check-plan-requires
     enum-told
     enum-known-need
     same-length

@@ -19,10 +19,10 @@ use Rattle.unnesting.proofs.shape.rule_of.Reads as rule-of-reads
 use Rattle.unnesting.proofs.step.step_at.Reads as step-at-reads
 
 abbrev Inv-loop : tie.InvT-loop
-Inv-loop set plan out₀ scratch₀ n i₀ out scratch i = (length out ≡ length out₀) × (length scratch ≡ length scratch₀) × (i ≤ n) × ((j : ℕ) → j < i → Still (tablesOf set) (planOf plan) j)
+Inv-loop set plan tables out₀ scratch₀ n i₀ out scratch i = (length out ≡ length out₀) × (length scratch ≡ length scratch₀) × (i ≤ n) × ((j : ℕ) → j < i → Still (tablesOf set) (planOf plan) j)
 
 abbrev μ-loop : tie.MeasureT-loop
-μ-loop set plan out₀ scratch₀ n i₀ out scratch i = n - i
+μ-loop set plan tables out₀ scratch₀ n i₀ out scratch i = n - i
 
 -- src/step.rt:105:9
 nodes-of-requires : tie.Need-nodes-of-requires Inv-loop μ-loop
@@ -42,7 +42,7 @@ step-at-requires c κs =
     let s = c .before .before .before .before .before .before .before .before .before .before in
     let l = c .before .before .before .before .loop in
     let n = c .before .before .before .before .before .nodes-of .ensures .0 in
-    ((s .pre .0 .0, s .pre .0 .1), ((omega (arith, n, c .before .before .before .loop-test .taken), c .before .before .node-at .ensures, omega (arith, l .inv .0, s .pre .1 .1)), omega (arith, l .inv .1, s .pre .1 .0)))
+    ((s .pre .0 .0, s .pre .0 .1, s .pre .0 .2), ((omega (arith, n, c .before .before .before .loop-test .taken), c .before .before .node-at .ensures, omega (arith, l .inv .0, s .pre .1 .1)), omega (arith, l .inv .1, s .pre .1 .0)))
 
 -- src/step.rt:111:17
 enum-known-length : tie.Need-enum-known-length Inv-loop μ-loop
@@ -53,8 +53,8 @@ rule-of-requires : tie.Need-rule-of-requires Inv-loop μ-loop
 rule-of-requires c κs = search needs
 
 -- src/step.rt:116:28
-cast-t17 : tie.Need-cast-t17 Inv-loop μ-loop
-cast-t17 c =
+cast-t18 : tie.Need-cast-t18 Inv-loop μ-loop
+cast-t18 c =
     let s = c .before .before .before .before .before .before .before .before .before .before .before .before .before .before .before .before .before .before .before in
     let a = s .args in
     omega (arith, c .before .before .before .before .before .before .before .before .before .before .before .before .before .before .nodes-of .ensures .0, c .before .before .before .before .before .before .before .before .before .before .before .before .loop-test .taken, nodes-few (a .set .now) (a .plan .now) (s .pre .0 .0))
@@ -95,7 +95,7 @@ loop-again c =
     let a = s .args in
     let l = c .before .before .before .before .before .before .before .before .before .before .before .loop in
     let e = c .before .before .before .before .before .before .step-at in
-    (omega (arith, l .inv .0, e .kept .1 .1 .1 .1 .0), omega (arith, l .inv .1, e .kept .1 .1 .1 .1 .1 .0), omega (arith, c .before .before .before .before .before .before .before .before .before .before .loop-test .taken), still-more (tablesOf (a .set .now)) (planOf (a .plan .now)) (l .i) (l .inv .3) (still-at (tablesOf (a .set .now)) (planOf (a .plan .now)) (l .i) (tells-none _ _ _ _ (e .ensures) (c .enum-told .given .1))))
+    (omega (arith, l .inv .0, e .kept .1 .1 .1 .1 .1 .0), omega (arith, l .inv .1, e .kept .1 .1 .1 .1 .1 .1 .0), omega (arith, c .before .before .before .before .before .before .before .before .before .before .loop-test .taken), still-more (tablesOf (a .set .now)) (planOf (a .plan .now)) (l .i) (l .inv .3) (still-at (tablesOf (a .set .now)) (planOf (a .plan .now)) (l .i) (tells-none _ _ _ _ (e .ensures) (c .enum-told .given .1))))
 
 -- src/step.rt:100:1
 same-length-3 : tie.Need-same-length-3 Inv-loop μ-loop
@@ -125,7 +125,7 @@ smallest-step-spec =
     step-at-requires
     enum-known-length
     rule-of-requires
-    cast-t17
+    cast-t18
     same-length
     same-length-2
     returns

@@ -13,7 +13,7 @@ use Rattle.unnesting.proofs.step.step_at.Lts as lts
 use Rattle.unnesting.proofs.sequence.ready_at.Reads as ready-at-reads
 use Rattle.unnesting.proofs.step.possible_at.Reads as possible-at-reads
 
-left : (c : tie.After-length) → Left (c .before .before .before .before .before .before .before .before .before .before .args .set .now) (c .before .before .before .before .possible-at .last .1 .1 .1 .1 .0) (possible (tablesOf (c .before .before .before .before .before .before .before .before .before .before .args .set .now)) (planOf (c .before .before .before .before .before .before .before .before .before .before .args .plan .now)) (c .before .before .before .before .before .before .before .before .before .before .args .i)) (c .length .given .0 .0) (c .length .given .0 .1 .0)
+left : (c : tie.After-length) → Left (c .before .before .before .before .before .before .before .before .before .before .args .set .now) (c .before .before .before .before .possible-at .last .1 .1 .1 .1 .1 .0) (possible (tablesOf (c .before .before .before .before .before .before .before .before .before .before .args .set .now)) (planOf (c .before .before .before .before .before .before .before .before .before .before .args .plan .now)) (c .before .before .before .before .before .before .before .before .before .before .args .i)) (c .length .given .0 .0) (c .length .given .0 .1 .0)
 left c = tells-left _ _ _ _ _ _ (c .before .before .before .before .possible-at .ensures) (c .length .given .1)
 
 -- src/step.rt:82:11

@@ -1,4 +1,5 @@
 use mathlib.Core.Path.{refl, sym, _∙_}
+use Rattle.reading.proofs.Acceptance.{accepted}
 use Rattle.reporting.proofs.Reports.{accepted-input}
 use Rattle.unnesting.proofs.UnnestLaws.{turned-back}
 use borrow.Author.Needs.{needs}
@@ -23,14 +24,16 @@ refused-requires : tie.Need-refused-requires
 refused-requires c κs = search needs
 
 -- src/unnest.rt:85:13
-enum-known-need : tie.Need-enum-known-need
-enum-known-need c = search needs
+enum-known-tables : tie.Need-enum-known-tables
+enum-known-tables c = search needs
 
 -- src/unnest.rt:86:14
 unnest-accepted-requires : tie.Need-unnest-accepted-requires
 unnest-accepted-requires c κs =
     let a = c .before .before .before .before .before .before .before .before .before .before .before .before .args in
-    accepted-input (a .set .now) (a .plan .now) _ _ _ (sym (c .before .before .before .before .before .before .check-input .ensures) ∙ c .before .before .before .before .need .given .1)
+    let e = sym (c .before .before .before .before .before .before .check-input .ensures) ∙ c .before .before .before .before .tables .given .1 in
+    let i = accepted-input (a .set .now) (a .plan .now) _ _ _ e in
+    (i .0, i .1, accepted (a .set .now) (a .plan .now) _ _ _ e .setRead)
 
 -- src/unnest.rt:71:1
 returns : tie.Need-returns
@@ -61,7 +64,7 @@ unnest-spec =
     check-input-requires
     enum-known-number
     refused-requires
-    enum-known-need
+    enum-known-tables
     unnest-accepted-requires
     returns
     same-length

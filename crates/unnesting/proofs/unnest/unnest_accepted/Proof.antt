@@ -19,10 +19,10 @@ use Rattle.unnesting.proofs.run.run.Reads as run-reads
 use Rattle.unnesting.proofs.unnest.refused.Reads as refused-reads
 
 clean : (c : tie.After-clear) → c .clear .last .0 ≡ replicate (length (c .before .before .before .before .before .before .before .before .before .before .before .before .before .before .before .before .before .args .scratch .now)) 0
-clean c = c .clear .ensures ∙ ap (λ (n : ℕ). replicate n 0) (c .before .before .before .before .before .before .before .run .kept .1 .1 .1 .1 .1 .1 .0)
+clean c = c .clear .ensures ∙ ap (λ (n : ℕ). replicate n 0) (c .before .before .before .before .before .before .before .run .kept .1 .1 .1 .1 .1 .1 .1 .0)
 
-ended : (c : tie.Else1) → Ends (c .before .before .before .before .before .before .before .before .before .before .before .before .before .before .before .before .before .before .before .before .before .args .set .now) (c .before .before .before .before .before .before .before .before .before .before .before .before .before .before .before .before .before .before .before .before .before .args .plan .now) (length (c .before .before .before .before .before .before .before .before .before .before .before .before .before .before .before .before .before .before .before .before .before .args .scratch .now)) (c .before .before .before .before .before .before .before .before .before .before .before .run .last .1 .1 .1 .0) (c .before .before .before .before .before .before .before .before .before .before .before .run .last .1 .1 .1 .1 .1 .0) (c .before .before .before .before .before .before .before .before .before .before .before .run .result .steps) (c .before .before .before .before .before .before .before .before .before .before .before .run .result .length)
-ended c = runs-ended (c .before .before .before .before .before .before .before .before .before .before .before .run .result .enough) (c .before .before .before .before .before .before .before .before .before .before .before .before .before .before .before .before .before .before .before .before .before .args .set .now) (c .before .before .before .before .before .before .before .before .before .before .before .before .before .before .before .before .before .before .before .before .before .args .plan .now) (length (c .before .before .before .before .before .before .before .before .before .before .before .before .before .before .before .before .before .before .before .before .before .args .scratch .now)) (c .before .before .before .before .before .before .before .before .before .before .before .run .last .1 .1 .1 .0) (c .before .before .before .before .before .before .before .before .before .before .before .run .last .1 .1 .1 .1 .1 .0) (c .before .before .before .before .before .before .before .before .before .before .before .run .result .steps) (c .before .before .before .before .before .before .before .before .before .before .before .run .result .length) (c .before .before .before .before .before .before .before .before .before .before .before .run .ensures) (not-false _ (c .if1 .left))
+ended : (c : tie.Else1) → Ends (c .before .before .before .before .before .before .before .before .before .before .before .before .before .before .before .before .before .before .before .before .before .args .set .now) (c .before .before .before .before .before .before .before .before .before .before .before .before .before .before .before .before .before .before .before .before .before .args .plan .now) (length (c .before .before .before .before .before .before .before .before .before .before .before .before .before .before .before .before .before .before .before .before .before .args .scratch .now)) (c .before .before .before .before .before .before .before .before .before .before .before .run .last .1 .1 .1 .1 .0) (c .before .before .before .before .before .before .before .before .before .before .before .run .last .1 .1 .1 .1 .1 .1 .0) (c .before .before .before .before .before .before .before .before .before .before .before .run .result .steps) (c .before .before .before .before .before .before .before .before .before .before .before .run .result .length)
+ended c = runs-ended (c .before .before .before .before .before .before .before .before .before .before .before .run .result .enough) (c .before .before .before .before .before .before .before .before .before .before .before .before .before .before .before .before .before .before .before .before .before .args .set .now) (c .before .before .before .before .before .before .before .before .before .before .before .before .before .before .before .before .before .before .before .before .before .args .plan .now) (length (c .before .before .before .before .before .before .before .before .before .before .before .before .before .before .before .before .before .before .before .before .before .args .scratch .now)) (c .before .before .before .before .before .before .before .before .before .before .before .run .last .1 .1 .1 .1 .0) (c .before .before .before .before .before .before .before .before .before .before .before .run .last .1 .1 .1 .1 .1 .1 .0) (c .before .before .before .before .before .before .before .before .before .before .before .run .result .steps) (c .before .before .before .before .before .before .before .before .before .before .before .run .result .length) (c .before .before .before .before .before .before .before .before .before .before .before .run .ensures) (not-false _ (c .if1 .left))
 
 few : (c : tie.Else1) → c .before .before .before .before .before .before .before .before .before .before .before .run .result .steps ≤ 192
 few c = ended-few (c .before .before .before .before .before .before .before .before .before .before .before .before .before .before .before .before .before .before .before .before .before .args .set .now) (c .before .before .before .before .before .before .before .before .before .before .before .before .before .before .before .before .before .before .before .before .before .args .plan .now) (c .before .before .before .before .before .before .before .before .before .before .before .before .before .before .before .before .before .before .before .before .before .pre .0) _ _ _ _ _ (ended (c))
@@ -44,7 +44,7 @@ run-requires : tie.Need-run-requires
 run-requires c κs =
     let s = c .before .before .before .before .before .before .before .before .before in
     let a = s .args in
-    ((s .pre .0, accepted-passes (a .set .now) (a .plan .now) (input-parts (a .set .now) (a .plan .now) (s .pre .0) .1) (λ k. omega (arith, c .before .before .before .before .before .before .before .shared-slice-known2 .given k)), s .pre .1), (omega arith, omega arith, omega arith))
+    ((s .pre .0, accepted-passes (a .set .now) (a .plan .now) (input-parts (a .set .now) (a .plan .now) (s .pre .0) .1) (λ k. omega (arith, c .before .before .before .before .before .before .before .shared-slice-known2 .given k)), s .pre .1), (omega arith, omega arith, omega arith, s .pre .2))
 
 -- src/unnest.rt:49:5
 clear-requires : tie.Need-clear-requires
@@ -63,7 +63,7 @@ returns : tie.Need-returns
 returns c =
     let s = c .before .before .before .before .before .before .before .before .before .before .before .before .before .before .before .before .before .before .before .before .before .before in
     let a = s .args in
-    short-scratch (a .set .now) (a .plan .now) (a .out-plan .now) (a .out-steps .now) (a .scratch .now) _ _ _ _ (s .pre .0) (clean (c .before .before .before .before .before)) (runs-short (c .before .before .before .before .before .before .before .before .before .before .before .before .run .result .enough) (c .before .before .before .before .before .before .before .before .before .before .before .before .before .before .before .before .before .before .before .before .before .before .args .set .now) (c .before .before .before .before .before .before .before .before .before .before .before .before .before .before .before .before .before .before .before .before .before .before .args .plan .now) (length (c .before .before .before .before .before .before .before .before .before .before .before .before .before .before .before .before .before .before .before .before .before .before .args .scratch .now)) (c .before .before .before .before .before .before .before .before .before .before .before .before .run .last .1 .1 .1 .0) (c .before .before .before .before .before .before .before .before .before .before .before .before .run .last .1 .1 .1 .1 .1 .0) (c .before .before .before .before .before .before .before .before .before .before .before .before .run .result .steps) (c .before .before .before .before .before .before .before .before .before .before .before .before .run .result .length) (c .before .before .before .before .before .before .before .before .before .before .before .before .run .ensures) (not-true _ (c .before .if1 .taken))) (c .refused .ensures)
+    short-scratch (a .set .now) (a .plan .now) (a .out-plan .now) (a .out-steps .now) (a .scratch .now) _ _ _ _ (s .pre .0) (clean (c .before .before .before .before .before)) (runs-short (c .before .before .before .before .before .before .before .before .before .before .before .before .run .result .enough) (c .before .before .before .before .before .before .before .before .before .before .before .before .before .before .before .before .before .before .before .before .before .before .args .set .now) (c .before .before .before .before .before .before .before .before .before .before .before .before .before .before .before .before .before .before .before .before .before .before .args .plan .now) (length (c .before .before .before .before .before .before .before .before .before .before .before .before .before .before .before .before .before .before .before .before .before .before .args .scratch .now)) (c .before .before .before .before .before .before .before .before .before .before .before .before .run .last .1 .1 .1 .1 .0) (c .before .before .before .before .before .before .before .before .before .before .before .before .run .last .1 .1 .1 .1 .1 .1 .0) (c .before .before .before .before .before .before .before .before .before .before .before .before .run .result .steps) (c .before .before .before .before .before .before .before .before .before .before .before .before .run .result .length) (c .before .before .before .before .before .before .before .before .before .before .before .before .run .ensures) (not-true _ (c .before .if1 .taken))) (c .refused .ensures)
 
 -- src/unnest.rt:56:9
 refused-requires-2 : tie.Need-refused-requires-2
@@ -109,7 +109,7 @@ part-write-bytes-start c = search needs
 
 -- src/unnest.rt:61:30
 part-write-bytes-end : tie.Need-part-write-bytes-end
-part-write-bytes-end c = omega (arith, ended-short (c .before .before .before .before .before .before .before .before .before .before .before .before .before .before .before .before .before .before .before .before .before .before .before .before .before .args .set .now) (c .before .before .before .before .before .before .before .before .before .before .before .before .before .before .before .before .before .before .before .before .before .before .before .before .before .args .plan .now) (c .before .before .before .before .before .before .before .before .before .before .before .before .before .before .before .before .before .before .before .before .before .before .before .before .before .pre .0) _ _ _ _ _ (ended (c .before .before .before .before)), c .before .before .before .before .before .before .before .before .before .before .before .before .before .before .before .run .kept .1 .1 .1 .0)
+part-write-bytes-end c = omega (arith, ended-short (c .before .before .before .before .before .before .before .before .before .before .before .before .before .before .before .before .before .before .before .before .before .before .before .before .before .args .set .now) (c .before .before .before .before .before .before .before .before .before .before .before .before .before .before .before .before .before .before .before .before .before .before .before .before .before .args .plan .now) (c .before .before .before .before .before .before .before .before .before .before .before .before .before .before .before .before .before .before .before .before .before .before .before .before .before .pre .0) _ _ _ _ _ (ended (c .before .before .before .before)), c .before .before .before .before .before .before .before .before .before .before .before .before .before .before .before .run .kept .1 .1 .1 .1 .0)
 
 -- src/unnest.rt:61:5
 write-bytes-requires : tie.Need-write-bytes-requires
@@ -129,7 +129,7 @@ part-write-bytes-start-2 c = search needs
 
 -- src/unnest.rt:62:31
 part-write-bytes-end-2 : tie.Need-part-write-bytes-end-2
-part-write-bytes-end-2 c = omega (arith, few (c .before .before .before .before .before .before .before .before .before .before), c .before .before .before .before .before .before .before .before .before .before .before .before .before .before .before .before .before .before .before .before .before .run .kept .1 .1 .1 .1 .1 .0)
+part-write-bytes-end-2 c = omega (arith, few (c .before .before .before .before .before .before .before .before .before .before), c .before .before .before .before .before .before .before .before .before .before .before .before .before .before .before .before .before .before .before .before .before .run .kept .1 .1 .1 .1 .1 .1 .0)
 
 -- src/unnest.rt:62:5
 write-bytes-requires-2 : tie.Need-write-bytes-requires-2
