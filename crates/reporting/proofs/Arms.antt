@@ -18,12 +18,13 @@ use Rattle.reading.specs.Tree.{planAt}
 use Rattle.reading.specs.Nodes.{operatorNested}
 use Rattle.reporting.specs.Rows.{chunk, rowAt, rowsFrom, envOf, Gives, acted, actedColumns, emitted, emittedColumns, emittedMost}
 use Rattle.reporting.specs.Written.{Emitted}
-use Rattle.reporting.specs.Evaluation.{columnsAt, Sound, Ready, shareOf, UnaryRoom, StepRoom, LoopRoom, NestedStep, nestedRow, plainRow, leafGiven, leafWidth, leafMost}
+use Rattle.reporting.specs.Evaluation.{columnsAt, Sound, Ready, shareOf, UnaryRoom, StepRoom, LoopRoom, NestedStep, nestedRow, plainRow, differing, leafGiven, leafWidth, leafMost}
 use Rattle.reporting.proofs.Chunks.{mono, turns, chunk-drop-same, row-same}
 use Rattle.reporting.proofs.Lent.{lent-rows}
 use Rattle.reporting.proofs.Building.{one-row}
 use Rattle.reporting.proofs.Soundness.{sound-bound, sound-within}
 use Rattle.reporting.proofs.Children.{most-mono, Childless, First, Single, Double}
+use Rattle.reporting.proofs.Once.{once-rows}
 
 -- the ids at the front of a buffer, as a part of it has them
 pub ids-part : {ids : List ℕ} (w : ℕ) (buffer : List ℕ) → take w buffer ≡ ids → take (w - 0) buffer ≡ ids
@@ -146,7 +147,7 @@ module _ {T : Tables} {op : Operator} {P p q : Plan} (D : Double T op P p q) whe
       gives-as g (ap (flatMap (nestedRow T op (columns T p) q env)) (left-rows own j cells h C) ∙ sym (D .nests n env)) (sym (ap length (D .ids)))
       (emitted-few m (bound T q) (C .gives .few) (omega arith))
 
-  pub binary-arm : {env : Env} {m k r : ℕ} {ys zs cells′ : List ℕ} (own j behind i : ℕ) (cells : List ℕ) → operatorNested op ≡ false → own ≤ length cells → Kid T p env m ys
+  pub binary-arm : {env : Env} {m k r : ℕ} {ys zs cells′ : List ℕ} (own j behind i : ℕ) (cells : List ℕ) → differing T op p q ≡ false → own ≤ length cells → Kid T p env m ys
       → let W = putMid own j cells ys in
       own + m * width T p ≤ behind → behind ≤ length W → Kid T q env k zs
       → let X = putMid behind i W zs in
@@ -157,7 +158,7 @@ module _ {T : Tables} {op : Operator} {P p q : Plan} (D : Double T op P p q) whe
       let X : List ℕ = putMid behind i W zs in
       let l : chunk m (width T p) (drop own X) ≡ eval T p env = chunk-drop-same own m (width T p) behind X W below (take-put behind i W zs inside) ∙ left-rows own j cells h C in
       let s : chunk k (width T q) (drop behind X) ≡ eval T q env = left-rows behind i W inside E in
-      gives-as g ((λ z. flatMap (plainRow op (columns T p) (columns T q) (s z) env) (l z)) ∙ sym (D .plain n env)) (sym (ap length (D .ids)))
+      gives-as g ((λ z. flatMap (plainRow op (columns T p) (columns T q) (s z) env) (l z)) ∙ sym (once-rows D n env)) (sym (ap length (D .ids)))
       (emitted-few m k (C .gives .few) (E .gives .few))
 
 -- the room for a row's rows is enough for fewer right rows

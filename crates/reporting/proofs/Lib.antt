@@ -18,6 +18,7 @@ pub mod Emits
 pub mod Acts
 pub mod Soundness
 pub mod Children
+pub mod Once
 pub mod Arms
 pub mod ColumnWays
 pub mod TableRows

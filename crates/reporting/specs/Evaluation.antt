@@ -1,6 +1,6 @@
 -- What the evaluator asks of a plan's tree and of its cells, and what it leaves in them. Private contracts speak of these. Definitions only.
 use Prim.Native.Nat.{ℕ, _+_, _*_, _-_, _≤_, _<_}
-use mathlib.Core.Bool.{true}
+use mathlib.Core.Bool.{Bool, true, false, not, _&&_}
 use mathlib.Core.Path.{_≡_}
 use mathlib.Core.List.{List, [], map}
 use Rattle.algebra.specs.Lists.{filter, all, flatMap}
@@ -9,6 +9,8 @@ use Rattle.algebra.specs.Plans.{Row, Env, Test, Tables, Plan, leafColumns, leaf
 use Rattle.algebra.specs.Places.{Operator, leafNode, unaryNode, binaryNode, subtrees}
 use Rattle.algebra.specs.Names.{introduced}
 use Rattle.algebra.specs.Refusals.{byte, inView, narrow, low, width, bound, hasRegion, countedRows, part, leafBound}
+use Rattle.algebra.specs.Rules.{avoids}
+use Rattle.reading.specs.Nodes.{operatorNested}
 use Rattle.reading.specs.TableSet.{columnsOf, rowsOf, tableRows, tablesOf}
 use Rattle.reading.specs.Tree.{planAt}
 use Rattle.reporting.specs.Rows.{rowAt, rowsFrom, envOf, Gives, acted, actedColumns, emitted, emittedColumns, emittedMost}
@@ -123,6 +125,16 @@ nestedRow T op cs q env l = emitted op (columns T q) l (bind cs l env) (eval T q
 
 abbrev pub plainRow : Operator → List ℕ → List ℕ → List Row → Env → Row → List Row
 plainRow op cs ds rs env l = emitted op ds l (bind cs l env) rs
+
+-- whether a node's right rows may differ from left row to left row: it is nested, and its inner plan q names a column of its first child p
+abbrev pub differing : Tables → Operator → Plan → Plan → Bool
+differing T op p q = operatorNested op && not (avoids T q p)
+
+-- The second child, at place `right`, may be run once for all rows of the first, at place `left`, only where its rows are the same for each of
+-- them; where the node is not nested it must.
+pub record RunsOnce (set plan : List ℕ) (left right : ℕ) (op : Operator) (r : Bool) : Type 0 where
+  pub same : r ≡ true → differing (tablesOf set) op (planAt plan left) (planAt plan right) ≡ false
+  pub nests : r ≡ false → operatorNested op ≡ true
 
 -- One left row stands at src, and its right rows, at most k, from `behind` on. What it gives at dst ends before it.
 pub record StepRoom (op : Operator) (cs ds : List ℕ) (k src dst behind : ℕ) : Type 0 where

@@ -3,7 +3,7 @@ ghost use mathlib.Core.Path.{_≡_};
 ghost use Prim.Native.Nat.{_+_, _*_, _-_, _≤_};
 ghost use lib.ListN.{length};
 ghost use Rattle.reading.specs.Tree.{operatorOf};
-ghost use Rattle.reading.specs.Nodes.{arity, operatorNested};
+ghost use Rattle.reading.specs.Nodes.{arity};
 ghost use Rattle.reporting.specs.Rows.{emittedColumns, emittedMost};
 ghost use Rattle.reporting.specs.Evaluation.{columnsAt, boundAt, widthAt, SoundAt, ReadyAt, TreeGiven, UnaryRoom, UnaryGiven};
 ghost use Rattle.reporting.specs.Evaluation.{StepRoom, LoopRoom, PlainStep, PlainGiven, NestedStep, NestedGiven};
@@ -14,22 +14,12 @@ use crate::columns::tree_part;
 use crate::emit::emit_row;
 use crate::env::inner_env;
 use crate::leaf::leaf;
+use crate::nesting::runs_once;
 use reading::kinds::children_of;
 use reading::plan::Node;
 use reading::plan::node_at;
 use reading::tree::nodes_of;
 use reading::tree::tree_end;
-
-// Whether a node's second child is an inner plan, run for each left row.
-fn is_nested(node: Node) -> bool
-    ensures { λ r. ⌜ r ≡ operatorNested (operatorOf node) ⌝ }
-{
-    let kind = node.kind;
-    if kind < 8 {
-        return false;
-    }
-    kind < 12
-}
 
 // How many columns a node with two children gives, of its children's.
 fn emitted_width(node: Node, ids: &[u8], jds: &[u8]) -> usize
@@ -125,7 +115,8 @@ fn plain_loop(
     out
 }
 
-// A node with two children, at places `left` and `right`, which is not nested; their rows stand at `own` and at `behind`.
+// A node with two children, at places `left` and `right`, whose right rows are the same for every left row; the rows stand at `own` and at
+// `behind`.
 fn binary_at(
     set: &[u8],
     plan: &[u8],
@@ -292,7 +283,7 @@ pub(crate) fn eval(set: &[u8], plan: &[u8], at: usize, cells: &mut [u32], env: &
     }
     let right = tree_end(plan, left);
     let behind = own + tree_part(set, plan, left);
-    if is_nested(node) {
+    if !runs_once(set, plan, left, right, node, m) {
         return nested_at(set, plan, left, right, node, cells, own, m, behind, env);
     }
     let k = eval(set, plan, right, &mut cells[behind..], env);

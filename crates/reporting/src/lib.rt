@@ -13,6 +13,7 @@ mod index;
 mod leaf;
 mod merge;
 mod order;
+mod nesting;
 pub mod output;
 mod places;
 pub mod report;

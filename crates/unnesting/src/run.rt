@@ -31,8 +31,9 @@ fn write_step(steps: &mut [u8], count: usize, rule: u8, place: u8)
     write_bytes(steps, 2 * count, &bytes);
 }
 
-// Runs from the plan given, whose need and whose set's number of tables are known. Leaves the last plan at the front of `current`, and at the front of `steps` two bytes for each
-// step; `next` holds the plan after a step while it is tried. No plan takes more than 1,542 bytes, and no run more than 192 steps.
+// Runs from the plan given, over a set of so many tables; its need is known. Leaves the last plan at the front of `current`, and at the front
+// of `steps` two bytes for each step; `next` holds the plan after a step while it is tried. No plan takes more than 1,542 bytes, and no run
+// more than 192 steps.
 pub(crate) fn run(
     set: &[u8],
     plan: &[u8],

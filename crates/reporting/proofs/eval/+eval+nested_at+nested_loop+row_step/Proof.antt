@@ -41,7 +41,7 @@ pub +eval+nested-at+nested-loop+row-step-spec : {M : Type 1} → statement M
     (Eval.tree-end-requires t)
     (Eval.tree-part-requires t)
     (Eval.add-behind t)
-    (Eval.is-nested-requires t)
+    (Eval.runs-once-requires t)
     (Eval.nested-at-requires t)
     (Eval.same-length-3 t)
     (Eval.returns-4 t)

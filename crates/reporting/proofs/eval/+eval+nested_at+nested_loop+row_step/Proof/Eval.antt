@@ -11,6 +11,7 @@ use Rattle.reporting.specs.Evaluation.{partAt}
 use Rattle.reading.specs.Plan.{nodesOf}
 use Rattle.reading.proofs.Operators.{arity-of}
 use Rattle.reading.proofs.Trees.{plan-past, second-at}
+use borrow.Author.Tests.{not-true, not-false}
 use borrow.Rule.Slice.PartMut.{putMid, same-len-mid}
 use Rattle.reporting.proofs.Soundness.{sound-bound}
 use Rattle.reporting.proofs.Children.{First, Single, Double, childless-at, first-at, single-at, double-at, two-of}
@@ -30,9 +31,9 @@ use Rattle.reporting.proofs.emit.emit_row.Reads as emit-row-reads
 use Rattle.reporting.proofs.env.inner_env.Reads as inner-env-reads
 use Rattle.reporting.proofs.eval.binary_at.Reads as binary-at-reads
 use Rattle.reporting.proofs.eval.emitted_width.Reads as emitted-width-reads
-use Rattle.reporting.proofs.eval.is_nested.Reads as is-nested-reads
 use Rattle.reporting.proofs.eval.unary_at.Reads as unary-at-reads
 use Rattle.reporting.proofs.leaf.leaf.Reads as leaf-reads
+use Rattle.reporting.proofs.nesting.runs_once.Reads as runs-once-reads
 use Rattle.reporting.proofs.eval.+eval+nested_at+nested_loop+row_step.Proof.Measures.{eval-at, eval-calls}
 
 here : (t : ℕ) (c : eval-lts.Else1 (eval-calls t) (eval-at t) eval.Post) → let a = c .before .before .before .before .before .before .args in a .at < nodesOf (a .plan .now)
@@ -188,8 +189,8 @@ pub add-behind : (t : ℕ) → eval-lts.Need-add-behind (eval-calls t) (eval-at 
 add-behind t c = omega (arith, within t c, c .before .before .before .before .before .before .before .before .before .before .before .before .before .before .before .before .before .good)
 
 -- src/eval.rt:295:8
-pub is-nested-requires : (t : ℕ) → eval-lts.Need-is-nested-requires (eval-calls t) (eval-at t) eval.Post
-is-nested-requires t c κs = tt
+pub runs-once-requires : (t : ℕ) → eval-lts.Need-runs-once-requires (eval-calls t) (eval-at t) eval.Post
+runs-once-requires t c κs = tt
 
 -- src/eval.rt:296:9
 pub nested-at-requires : (t : ℕ) → eval-lts.Need-nested-at-requires (eval-calls t) (eval-at t) eval.Post
@@ -217,7 +218,7 @@ pub returns-4 : (t : ℕ) → eval-lts.Need-returns-4 (eval-calls t) (eval-at t)
 returns-4 t c =
     let a = c .before .before .before .before .before .before .before .before .before .before .before .before .before .before .before .before .before .before .before .before .before .before .before .args in
     let own = c .before .before .before .before .before .before .before .before .before .before .before .before .before .share-at .result in
-    nested-arm (both t (c .before .before .before .before .before .before .before)) own (length (a .cells .now) - own) (a .cells .now) (sym (c .before .before .before .before .before .is-nested .ensures) ∙ c .before .before .before .before .if4 .taken) (own-fits (c .before .before .before .before .before .before .before .before .before .before .before .before .before .before .before .before .before .before .before .before .before .before .before .pre .1) (first t (c .before .before .before .before .before .before .before .before .before .before .before .before .before .before)) (c .before .before .before .before .before .before .before .before .before .before .before .before .before .share-at .ensures .0)) (back t (c .before .before .before .before .before .before .before .before .before .before .before) .1) (c .before .before .nested-at .ensures)
+    nested-arm (both t (c .before .before .before .before .before .before .before)) own (length (a .cells .now) - own) (a .cells .now) (c .before .before .before .before .before .runs-once .ensures .nests (not-true _ (c .before .before .before .before .if4 .taken))) (own-fits (c .before .before .before .before .before .before .before .before .before .before .before .before .before .before .before .before .before .before .before .before .before .before .before .pre .1) (first t (c .before .before .before .before .before .before .before .before .before .before .before .before .before .before)) (c .before .before .before .before .before .before .before .before .before .before .before .before .before .share-at .ensures .0)) (back t (c .before .before .before .before .before .before .before .before .before .before .before) .1) (c .before .before .nested-at .ensures)
 
 -- src/eval.rt:298:36
 pub mul-eval-2 : (t : ℕ) → eval-lts.Need-mul-eval-2 (eval-calls t) (eval-at t) eval.Post
@@ -279,4 +280,4 @@ returns-5 t c =
     let o = c .before .before .before .before .before .before .before .before .before .before .before .before .before .before .before .before .before .share-at .ensures .0 in
     let few = c .before .before .before .before .before .before .before .before .before .before .before .before .before .before .before .eval .ensures .few in
     let few₂ = c .before .before .before .before .before .before .eval2 .ensures .few in
-    binary-arm D own (length (a .cells .now) - own) behind (length cells - behind) (a .cells .now) (sym (c .before .before .before .before .before .before .before .before .before .is-nested .ensures) ∙ c .before .before .before .before .before .before .before .before .if4 .left) (own-fits R F o) (back t (c .before .before .before .before .before .before .before .before .before .before .before .before .before .before .before) .1) (loop-room D R F o (behind-at t (c .before .before .before .before .before .before .before .before .before .before)) _ _ few few₂ .apart) (beyond t (c .before .before .before .before .before .before .before .before .before .before)) (back₂ t (c .before .before .before .before .before .before) .1) (c .before .before .binary-at .ensures)
+    binary-arm D own (length (a .cells .now) - own) behind (length cells - behind) (a .cells .now) (c .before .before .before .before .before .before .before .before .before .runs-once .ensures .same (not-false _ (c .before .before .before .before .before .before .before .before .if4 .left))) (own-fits R F o) (back t (c .before .before .before .before .before .before .before .before .before .before .before .before .before .before .before) .1) (loop-room D R F o (behind-at t (c .before .before .before .before .before .before .before .before .before .before)) _ _ few few₂ .apart) (beyond t (c .before .before .before .before .before .before .before .before .before .before)) (back₂ t (c .before .before .before .before .before .before) .1) (c .before .before .binary-at .ensures)

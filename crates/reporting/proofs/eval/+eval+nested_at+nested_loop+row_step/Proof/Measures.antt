@@ -28,7 +28,7 @@ use Rattle.reporting.proofs.emit.emit_row.Reads as emit-row-reads
 use Rattle.reporting.proofs.env.inner_env.Reads as inner-env-reads
 use Rattle.reporting.proofs.eval.binary_at.Reads as binary-at-reads
 use Rattle.reporting.proofs.eval.emitted_width.Reads as emitted-width-reads
-use Rattle.reporting.proofs.eval.is_nested.Reads as is-nested-reads
+use Rattle.reporting.proofs.nesting.runs_once.Reads as runs-once-reads
 use Rattle.reporting.proofs.eval.unary_at.Reads as unary-at-reads
 use Rattle.reporting.proofs.leaf.leaf.Reads as leaf-reads
 
@@ -73,7 +73,7 @@ row-step-below t =
     and 6 row-step-kinds.ps (falls 6 row-step-kinds.ps _<_ μ-row-step t) row-step.Pre
 
 abbrev pub eval-calls : ℕ → eval-lts.Claims
-eval-calls t = (nodes-of-reads.Asked, nodes-of-reads.Learnt, node-at-reads.Asked, node-at-reads.Learnt, children-of-reads.Asked, children-of-reads.Learnt, leaf-reads.Asked, leaf-reads.Learnt, share-at-reads.Asked, share-at-reads.Learnt, eval-below t, eval.Post, unary-at-reads.Asked, unary-at-reads.Learnt, tree-end-reads.Asked, tree-end-reads.Learnt, tree-part-reads.Asked, tree-part-reads.Learnt, is-nested-reads.Asked, is-nested-reads.Learnt, nested-at-below t, nested-at.Post, binary-at-reads.Asked, binary-at-reads.Learnt)
+eval-calls t = (nodes-of-reads.Asked, nodes-of-reads.Learnt, node-at-reads.Asked, node-at-reads.Learnt, children-of-reads.Asked, children-of-reads.Learnt, leaf-reads.Asked, leaf-reads.Learnt, share-at-reads.Asked, share-at-reads.Learnt, eval-below t, eval.Post, unary-at-reads.Asked, unary-at-reads.Learnt, tree-end-reads.Asked, tree-end-reads.Learnt, tree-part-reads.Asked, tree-part-reads.Learnt, runs-once-reads.Asked, runs-once-reads.Learnt, nested-at-below t, nested-at.Post, binary-at-reads.Asked, binary-at-reads.Learnt)
 
 abbrev pub nested-at-calls : ℕ → nested-at-lts.Claims
 nested-at-calls t = (columns-into-reads.Asked, columns-into-reads.Learnt, nested-loop-below t, nested-loop.Post)

@@ -1,15 +1,15 @@
 use borrow.Author.Tests.{lt-ltb, le-ltb}
 use Rattle.reporting.proofs.Children.{nested-kind}
-use Rattle.reporting.proofs.eval.is_nested.Statement.{statement}
-use Rattle.reporting.proofs.eval.is_nested.Tie as tie
-use Rattle.reporting.proofs.eval.is_nested.Reads as reads
-use Rattle.reporting.proofs.eval.is_nested.Lts as lts
+use Rattle.reporting.proofs.nesting.is_nested.Statement.{statement}
+use Rattle.reporting.proofs.nesting.is_nested.Tie as tie
+use Rattle.reporting.proofs.nesting.is_nested.Reads as reads
+use Rattle.reporting.proofs.nesting.is_nested.Lts as lts
 
--- src/eval.rt:29:9
+-- src/nesting.rt:29:9
 returns : tie.Need-returns
 returns c = let a = c .before .args in rw (lt-ltb (a .node .kind) 8 (c .if1 .taken)) at (nested-kind (a .node))
 
--- src/eval.rt:24:1
+-- src/nesting.rt:24:1
 returns-2 : tie.Need-returns-2
 returns-2 c = let a = c .before .args in rw (le-ltb (a .node .kind) 8 (c .if1 .left)) at (nested-kind (a .node))
 
