@@ -16,9 +16,8 @@ use Rattle.algebra.proofs.Needs.{extent}
 use Rattle.reading.specs.TableSet.{tablesOf}
 use Rattle.reading.specs.Tree.{planAt}
 use Rattle.reading.specs.Nodes.{operatorNested}
-use Rattle.reporting.specs.Rows.{chunk, rowAt, rowsFrom, envOf, Gives, acted, actedColumns, emitted, emittedColumns, emittedMost}
-use Rattle.reporting.specs.Written.{Emitted}
-use Rattle.reporting.specs.Evaluation.{columnsAt, Sound, Ready, shareOf, UnaryRoom, StepRoom, LoopRoom, NestedStep, nestedRow, plainRow, differing, leafGiven, leafWidth, leafMost}
+use Rattle.reporting.specs.Rows.{chunk, rowAt, rowsFrom, envOf, Gives, acted, actedColumns, emittedColumns, emittedMost}
+use Rattle.reporting.specs.Evaluation.{columnsAt, Sound, Ready, shareOf, UnaryRoom, StepRoom, LoopRoom, PlainStep, NestedStep, nestedRow, plainRow, differing, leafGiven, leafWidth, leafMost}
 use Rattle.reporting.proofs.Chunks.{mono, turns, chunk-drop-same, row-same}
 use Rattle.reporting.proofs.Lent.{lent-rows}
 use Rattle.reporting.proofs.Building.{one-row}
@@ -178,7 +177,7 @@ module _ (cells ys ids : List ℕ) (src behind : ℕ) (left : src + length ids �
 
   pub step-arm : {set plan : List ℕ} {inner : ℕ} {inside : Env} {k r dst : ℕ} {exit : List ℕ} (op : Operator) (jds words : List ℕ) → jds ≡ columnsAt set plan inner
       → inside ≡ bind ids (rowAt src (length ids) cells) (envOf words) → Kid (tablesOf set) (planAt plan inner) inside k ys → dst ≤ src
-      → Emitted (emitted op jds (rowAt src (length ids) Lent) inside (rowsFrom behind k (length jds) Lent)) (length (emittedColumns op ids jds)) (emittedMost op k) r dst (src + length ids) Lent exit
+      → PlainStep op ids jds (envOf words) src dst behind k Lent r exit
       → NestedStep set plan inner op ids words src dst behind cells r exit
   step-arm {set} {plan} {inner} {inside} {k} {dst = dst} {exit = exit} op jds words ej ee C below g =
       let T : Tables = tablesOf set in
@@ -189,7 +188,7 @@ module _ (cells ys ids : List ℕ) (src behind : ℕ) (left : src + length ids �
       record {
         gives =
             gives-as (g .gives)
-            ((λ z. emitted op (ej z) (row z) inside (rows z)) ∙ ap (λ (x : Env). emitted op (columns T q) (rowAt src (length ids) cells) x (eval T q x)) ee)
+            ((λ z. plainRow op ids (ej z) (rows z) (envOf words) (row z)) ∙ ap (λ (x : Env). plainRow op ids (columns T q) (eval T q x) (envOf words) (rowAt src (length ids) cells)) ee)
             (ap (λ (ds : List ℕ). length (emittedColumns op ids ds)) ej)
             (most-mono op k (bound T q) (C .gives .few));
         before = g .before ∙ take-less dst behind Lent cells (omega arith) front;

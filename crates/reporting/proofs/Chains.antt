@@ -166,7 +166,7 @@ module _ (slot : Row → ℕ) (rs : List Row) (ns heads next : List ℕ) (x : In
     in-bucket : (i : ℕ) → p (nth rs i) ≡ true → eqb (slot (nth rs i)) b ≡ true
     in-bucket i t = eq-eqb (slot (nth rs i)) b (only (nth rs i) t)
 
-    chain-filter : filter (λ i. p (nth rs i)) (chain (suc k) next h) ≡ filter (λ i. p (nth rs i)) ns
+    pub chain-filter : filter (λ i. p (nth rs i)) (chain (suc k) next h) ≡ filter (λ i. p (nth rs i)) ns
     chain-filter = ap (filter (λ i. p (nth rs i))) bucket-chain ∙ bucket-filter (λ i. p (nth rs i)) (λ i. eqb (slot (nth rs i)) b) in-bucket ns
 
     chain-any : any (λ i. p (nth rs i)) (chain (suc k) next h) ≡ any (λ i. p (nth rs i)) ns

@@ -1,14 +1,16 @@
 -- A row's columns bound in an environment. Assumes nothing.
 use mathlib.Core.Path.{_≡_, refl, sym, ap, _∙_}
-use mathlib.Core.Bool.{Bool, true, false, cond}
+use mathlib.Core.Bool.{Bool, true, false, cond, _||_, false≢true}
 use mathlib.Core.List.{List, [], _∷_, _++_, map, map-append}
-use Prim.Native.Nat.{ℕ, _+_, _≤_, _<_}
+use Prim.Native.Nat.{ℕ, suc, _+_, _≤_, _<_}
 use native.Mathlib.Numerals.{add-one}
 use lib.Dec.{eqb}
 use lib.ListN.{length, take, drop, getD, set, drop-of-length-le}
 use lib.Seq.{drop-cons, take-suc, getD-set-same, getD-set-other}
 use borrow.Author.Tests.{eqb-true, eqb-false, eq-eqb, ne-eqb}
+use Rattle.algebra.specs.Lists.{member}
 use Rattle.algebra.specs.Plans.{Row, Env, bind, cut}
+use Rattle.reporting.specs.Positions.{placeOf}
 use Rattle.reporting.specs.Rows.{envOf}
 
 -- the columns from i on: column i, then the rest
@@ -55,3 +57,33 @@ cut-more list cs env row j v h e =
     ap (λ (x : ℕ). cut (take j list) cs env row ++ (x ∷ [])) e
     ∙ sym (map-append (bind cs row env) (take j list) (getD list j 0 ∷ []))
     ∙ ap (map (bind cs row env)) (sym (take-suc list j 0 h) ∙ ap (λ (k : ℕ). take k list) (sym (add-one j)))
+
+-- ---- a column that is the row's own is the cell at its place, another is the same for every row: in rows of any length, for a cell that is missing
+-- is blank, and blank is 0
+module _ (env : Env) (x : ℕ) where
+  pub bind-own : (cs : List ℕ) (r : Row) → member x cs ≡ true → bind cs r env x ≡ getD r (placeOf x cs) 0
+  unfolding placeOf
+  bind-own [] r h = absurd (false≢true h)
+  bind-own (c ∷ cs) [] h =
+      (elim (eqb x c) as (λ b. (b || member x cs) ≡ true → cond b 0 (bind cs [] env x) ≡ 0) [
+        | true ↦ λ m. refl
+        | false ↦ λ m. bind-own cs [] m
+      ]) h
+  bind-own (c ∷ cs) (v ∷ r) h =
+      (elim (eqb x c) as (λ b. (b || member x cs) ≡ true → cond b v (bind cs r env x) ≡ getD (v ∷ r) (cond b 0 (suc (placeOf x cs))) 0) [
+        | true ↦ λ m. refl
+        | false ↦ λ m. bind-own cs r m
+      ]) h
+
+  pub bind-other : (cs : List ℕ) (r : Row) → member x cs ≡ false → bind cs r env x ≡ env x
+  bind-other [] r h = refl
+  bind-other (c ∷ cs) [] h =
+      (elim (eqb x c) as (λ b. (b || member x cs) ≡ false → cond b 0 (bind cs [] env x) ≡ env x) [
+        | true ↦ λ m. absurd (false≢true (sym m))
+        | false ↦ λ m. bind-other cs [] m
+      ]) h
+  bind-other (c ∷ cs) (v ∷ r) h =
+      (elim (eqb x c) as (λ b. (b || member x cs) ≡ false → cond b v (bind cs r env x) ≡ env x) [
+        | true ↦ λ m. absurd (false≢true (sym m))
+        | false ↦ λ m. bind-other cs r m
+      ]) h

@@ -11,6 +11,7 @@ pub mod Groups
 pub mod Copies
 pub mod Envs
 pub mod Building
+pub mod Picks
 pub mod Tallies
 pub mod Passing
 pub mod Lent
@@ -26,3 +27,7 @@ pub mod Codes
 pub mod Reports
 pub mod Subplans
 pub mod ListActs
+pub mod Sides
+pub mod Emitting
+pub mod Meets
+pub mod Earliest

@@ -1,25 +1,25 @@
 -- Adding a cell keeps what a tally says, and every aggregate is read off it. Assumes nothing.
-use Prim.Native.Nat.{ℕ, suc, _+_, _*_, _≤_, min, max}
+use Prim.Native.Nat.{ℕ, suc, _+_, _≤_, _<_, min, max}
 use mathlib.Core.Path.{_≡_, refl, sym, ap, _∙_, subst}
 use mathlib.Core.Bool.{Bool, true, false, not, cond, _&&_, _||_}
-use mathlib.Core.List.{List, [], _∷_, _++_, map, foldr, append-nil}
-use native.Mathlib.Numerals.{add-one}
+use mathlib.Core.List.{List, [], _∷_, _++_, foldr, append-nil, append-assoc}
 use native.Mathlib.Nat.{add-comm, add-assoc, min-comm, max-comm}
 use native.Mathlib.Omega.{arith}
 use lib.Dec.{eqb, ltb}
-use lib.ListN.{length, take, drop, length-append, length-map}
+use lib.ListN.{length, take, length-append}
 use borrow.Author.Tests.{eqb-true, ne-eqb, lt-ltb}
 use Rattle.algebra.specs.Lists.{filter, any, total}
 use Rattle.algebra.specs.Cells.{Aggregate, count, over, Summary, sum, least, greatest, blank, offScale, origin, isBlank, needsAll, sumOf, summary, aggregate}
-use Rattle.algebra.specs.Plans.{Row, Env, bind, measure, gather}
-use Rattle.algebra.specs.Places.{Operator}
+use Rattle.algebra.specs.Plans.{Row}
 use Rattle.algebra.proofs.Lists.{filter-length}
 use Rattle.algebra.proofs.Cells.{eqb-sym}
 use Rattle.algebra.proofs.Places.{next-less}
-use Rattle.reporting.specs.Rows.{chunk, passing, aggregateIn, gathered}
-use Rattle.reporting.specs.Tallies.{measured, notBlank, Tallies, lesser, added, tallySummary, tallied, rowAdded}
+use Rattle.reading.specs.Tree.{aggregateOf}
+use Rattle.reporting.specs.Sides.{sideCell, FoundInside, meets, foundCells, foundCell}
+use Rattle.reporting.specs.Tallies.{notBlank, Tallies, Bounded, lesser, added, tallySummary, tallied}
 use Rattle.reporting.specs.declared.gather.Tally.{Tally}
-use Rattle.reporting.proofs.Chunks.{chunk-snoc, length-chunk}
+use Rattle.reporting.specs.declared.side.Found.{Found}
+use Rattle.reporting.proofs.Meets.{cells-met, cells-not-met, cells-few, cells-none}
 
 -- ---- one element more at the end
 module _ (op : ℕ → ℕ → ℕ) (assoc : (a b c : ℕ) → op (op a b) c ≡ op a (op b c)) (comm : (a b : ℕ) → op a b ≡ op b a) where
@@ -146,39 +146,56 @@ tallies-read (over k c) xs t says =
     summary-read least = says .lowest
     summary-read greatest = says .highest
 
--- ---- rows
-module _ (op : Operator) (ds : List ℕ) (env : Env) where
-  -- a row more
-  tallies-row : (rs : List Row) (r : Row) (t : Tally) → Tallies (measured op ds env rs) t → Tallies (measured op ds env (rs ++ (r ∷ []))) (rowAdded op (bind ds r env) t)
-  unfolding measured rowAdded
-  tallies-row rs r t says =
-      let read : Row → ℕ = λ q. measure (aggregateIn op) (bind ds q env) in
-      let passed : List Row = filter (λ q. passing op (bind ds q env)) rs in
-      subst (λ (l : List ℕ). Tallies l (cond (passing op (bind ds r env)) (added t (read r)) t)) (sym (ap (map read) (filter-last (λ q. passing op (bind ds q env)) r rs)))
-      (elim (passing op (bind ds r env)) as (λ b. Tallies (map read (passed ++ cond b (r ∷ []) [])) (cond b (added t (read r)) t)) [
-        | true ↦ subst (λ (l : List ℕ). Tallies l (added t (read r))) (sym (map-last read passed r)) (tallies-add (map read passed) t (read r) says)
-        | false ↦ subst (λ (l : List Row). Tallies (map read l) t) (sym (append-nil passed)) says
-      ])
-    where
-      map-last : (f : Row → ℕ) (qs : List Row) (q : Row) → map f (qs ++ (q ∷ [])) ≡ map f qs ++ (f q ∷ [])
-      map-last f [] q = refl
-      map-last f (p ∷ qs) q = ap (λ (l : List ℕ). f p ∷ l) (map-last f qs q)
+-- ---- rows: what is measured of all that are met is what was added so far, and then what is measured of those that are left
+pub record Tallying (f : Found) (l : Row) (all rows : List Row) (t : Tally) : Type 0 where
+  pub cells : List ℕ
+  pub says : Tallies cells t
+  pub bounded : Bounded t
+  pub so-far : foundCells f l all ≡ cells ++ foundCells f l rows
 
-  -- the row at hand of the cells
-  pub tallies-turn : (w i : ℕ) (cells : List ℕ) (t t′ : Tally) → Tallies (measured op ds env (chunk i w cells)) t
-      → t′ ≡ rowAdded op (bind ds (take w (drop (i * w) cells)) env) t → Tallies (measured op ds env (chunk (i + 1) w cells)) t′
-  tallies-turn w i cells t t′ says e =
-      let row : Row = take w (drop (i * w) cells) in
-      let one : chunk (i + 1) w cells ≡ chunk i w cells ++ (row ∷ []) = ap (λ (n : ℕ). chunk n w cells) (add-one i) ∙ chunk-snoc i w cells in
-      subst (λ (s : Tally). Tallies (measured op ds env (chunk (i + 1) w cells)) s) (sym e)
-      (subst (λ (l : List Row). Tallies (measured op ds env l) (rowAdded op (bind ds row env) t)) (sym one) (tallies-row (chunk i w cells) row t says))
+module _ (f : Found) (l : Row) (all : List Row) where
+  pub tallying-start : (rows : List Row) (t : Tally) → foundCells f l all ≡ foundCells f l rows → Tallies [] t → Bounded t → Tallying f l all rows t
+  tallying-start rows t e says bounded = record { cells = []; says = says; bounded = bounded; so-far = e }
 
-  -- no more rows than there are
-  pub tallies-few : (w i : ℕ) (cells : List ℕ) (t : Tally) → Tallies (measured op ds env (chunk i w cells)) t → t .rows ≤ i
-  unfolding measured
-  tallies-few w i cells t says =
-      omega (arith, says .counted, length-map (filter (λ q. passing op (bind ds q env)) (chunk i w cells)) (λ q. measure (aggregateIn op) (bind ds q env)), filter-length (λ q. passing op (bind ds q env)) (chunk i w cells), length-chunk i w cells)
+  module _ (rows : List Row) (t : Tally) (p : Tallying f l all rows t) where
+    tallying-count : t .rows + length (foundCells f l rows) ≤ length all
+    tallying-count =
+        let both : length (foundCells f l all) ≡ length (p .cells) + length (foundCells f l rows) = ap length (p .so-far) ∙ length-append (p .cells) (foundCells f l rows) in
+        omega (arith, p .says .counted, cells-few f l all)
 
-  pub tallies-done : (rs : List Row) (t : Tally) → Tallies (measured op ds env rs) t → gathered op ds env rs ≡ tallied (aggregateIn op) t
-  unfolding gather measured
-  tallies-done rs t says = tallies-read (aggregateIn op) (measured op ds env rs) t says
+    -- no more rows than there are
+    pub tallying-few : t .rows ≤ length all
+    tallying-few = omega (arith, tallying-count)
+
+    -- no row is left: the aggregate is read off
+    pub tallying-done : rows ≡ [] → (r : ℕ) → ((column : ℕ) → r ≡ tallied (aggregateOf (f .code) column) t) → r ≡ foundCell f l all
+    tallying-done none r e =
+        let whole : foundCells f l all ≡ p .cells = p .so-far ∙ ap (λ (xs : List ℕ). p .cells ++ xs) (ap (foundCells f l) none ∙ cells-none f l) ∙ append-nil (p .cells) in
+        e 0 ∙ sym (ap (aggregate (aggregateOf (f .code) 0)) whole ∙ tallies-read (aggregateOf (f .code) 0) (p .cells) t (p .says))
+
+    -- the row at hand is met, or it is not
+    module _ (w v : ℕ) (inside : FoundInside f w v) (rest : List Row) (r : Row) (first : rows ≡ take v r ∷ rest) where
+      pub tallying-room : meets f l r ≡ true → t .rows < length all
+      tallying-room h = omega (arith, tallying-count, ap length (cells-met f l w v inside rows rest r first h))
+
+      pub tallying-met : meets f l r ≡ true → (t′ : Tally) → t′ ≡ added t (sideCell (f .measured) l r) → Bounded t′ → Tallying f l all rest t′
+      tallying-met h t′ e bounded =
+          let x : ℕ = sideCell (f .measured) l r in
+          record {
+            cells = p .cells ++ (x ∷ []);
+            says = subst (λ (s : Tally). Tallies (p .cells ++ (x ∷ [])) s) (sym e) (tallies-add (p .cells) t x (p .says));
+            bounded = bounded;
+            so-far =
+                p .so-far ∙ ap (λ (xs : List ℕ). p .cells ++ xs) (cells-met f l w v inside rows rest r first h)
+                ∙ sym (append-assoc (p .cells) (x ∷ []) (foundCells f l rest));
+          }
+
+      pub tallying-not-met : meets f l r ≡ false → (t′ : Tally) → t′ ≡ t → Tallying f l all rest t′
+      tallying-not-met h t′ e =
+          subst (λ (s : Tally). Tallying f l all rest s) (sym e)
+          (record {
+            cells = p .cells;
+            says = p .says;
+            bounded = p .bounded;
+            so-far = p .so-far ∙ ap (λ (xs : List ℕ). p .cells ++ xs) (cells-not-met f l w v inside rows rest r first h);
+          })

@@ -12,9 +12,13 @@ use Rattle.algebra.specs.Refusals.{byte, inView, narrow, low, width, bound, has
 use Rattle.algebra.specs.Rules.{avoids}
 use Rattle.reading.specs.Nodes.{operatorNested}
 use Rattle.reading.specs.TableSet.{columnsOf, rowsOf, tableRows, tablesOf}
-use Rattle.reading.specs.Tree.{planAt}
+use Rattle.reading.specs.Tree.{operatorOf, planAt}
+use Rattle.reading.specs.declared.plan.Node.{Node}
+use Rattle.reporting.specs.Positions.{picked}
 use Rattle.reporting.specs.Rows.{rowAt, rowsFrom, envOf, Gives, acted, actedColumns, emitted, emittedColumns, emittedMost}
+use Rattle.reporting.specs.Sides.{FoundFor}
 use Rattle.reporting.specs.Written.{Emitted}
+use Rattle.reporting.specs.declared.side.Found.{Found}
 
 -- ---- the tree at a place of a plan, over the tables of a set
 
@@ -117,6 +121,10 @@ SelectGiven t cs words own m entry r exit = Gives (filter (λ q. holds t (bind c
 abbrev pub CutsGiven : List ℕ → List ℕ → List ℕ → ℕ → ℕ → List ℕ → ℕ → List ℕ → Type 0
 CutsGiven ids cs words own m entry r exit = Gives (map (cut ids cs (envOf words)) (rowsFrom own m (length cs) entry)) (length ids) m r exit
 
+-- .. to its cells at these positions, w cells a row
+abbrev pub PicksGiven : List ℕ → ℕ → ℕ → ℕ → List ℕ → ℕ → List ℕ → Type 0
+PicksGiven positions w own m entry r exit = Gives (map (picked positions) (rowsFrom own m w entry)) (length positions) m r exit
+
 -- ---- a node with two children, cs and ds their columns
 
 -- what one left row gives: of a nested node, q the inner plan and env around the node; of another node, whose right rows are rs
@@ -146,17 +154,24 @@ pub record LoopRoom (op : Operator) (cs ds : List ℕ) (k own m behind : ℕ) : 
   pub share : shareOf op (m * emittedMost op k) (length (emittedColumns op cs ds)) ≤ own
   pub apart : own + m * length cs ≤ behind
 
--- what one left row gives, with the environment around the node; behind the row all is as it was
-abbrev pub PlainStep : Operator → List ℕ → List ℕ → List ℕ → ℕ → ℕ → ℕ → ℕ → List ℕ → ℕ → List ℕ → Type 0
-PlainStep op cs ds words src dst behind k entry r exit =
-    Emitted (plainRow op cs ds (rowsFrom behind k (length ds) entry) (envOf words) (rowAt src (length cs) entry)) (length (emittedColumns op cs ds)) (emittedMost op k) r dst
+-- what one left row gives, env the environment around the node; behind the row all is as it was
+abbrev pub PlainStep : Operator → List ℕ → List ℕ → Env → ℕ → ℕ → ℕ → ℕ → List ℕ → ℕ → List ℕ → Type 0
+PlainStep op cs ds env src dst behind k entry r exit =
+    Emitted (plainRow op cs ds (rowsFrom behind k (length ds) entry) env (rowAt src (length cs) entry)) (length (emittedColumns op cs ds)) (emittedMost op k) r dst
     (src + length cs) entry exit
 
 -- what all m left rows give, at the front
-abbrev pub PlainGiven : Operator → List ℕ → List ℕ → List ℕ → ℕ → ℕ → ℕ → ℕ → List ℕ → ℕ → List ℕ → Type 0
-PlainGiven op cs ds words own m behind k entry r exit =
-    Gives (flatMap (plainRow op cs ds (rowsFrom behind k (length ds) entry) (envOf words)) (rowsFrom own m (length cs) entry)) (length (emittedColumns op cs ds))
+abbrev pub PlainGiven : Operator → List ℕ → List ℕ → Env → ℕ → ℕ → ℕ → ℕ → List ℕ → ℕ → List ℕ → Type 0
+PlainGiven op cs ds env own m behind k entry r exit =
+    Gives (flatMap (plainRow op cs ds (rowsFrom behind k (length ds) entry) env) (rowsFrom own m (length cs) entry)) (length (emittedColumns op cs ds))
     (m * emittedMost op k) r exit
+
+-- the same of a node whose columns are found, under every environment that they were found in
+abbrev pub EmitGiven : Node → Found → List ℕ → List ℕ → ℕ → ℕ → ℕ → ℕ → List ℕ → ℕ → List ℕ → Type 0
+EmitGiven node f cs ds src dst behind k entry r exit = (env : Env) → FoundFor node cs ds env f → PlainStep (operatorOf node) cs ds env src dst behind k entry r exit
+
+abbrev pub EmitsGiven : Node → Found → List ℕ → List ℕ → ℕ → ℕ → ℕ → ℕ → List ℕ → ℕ → List ℕ → Type 0
+EmitsGiven node f cs ds own m behind k entry r exit = (env : Env) → FoundFor node cs ds env f → PlainGiven (operatorOf node) cs ds env own m behind k entry r exit
 
 -- What one left row of a nested node gives; its inner plan, at place `inner`, is run in the cells from `behind` on, and between the row and
 -- these all is as it was.

@@ -1,11 +1,11 @@
 -- An index of rows by chains. A link is 0 for none and i + 1 for row i: `heads` has the first link of each bucket, `next` the link behind
 -- each row. Definitions only.
-use Prim.Native.Nat.{ℕ, zero, suc, _+_, _*_, _/_, _%_, _<_}
+use Prim.Native.Nat.{ℕ, zero, suc, _+_, _*_, _/_, _%_, _<_, _≤_}
 use mathlib.Core.Path.{_≡_}
 use mathlib.Core.List.{List, [], _∷_}
 use lib.Dec.{eqb}
 use lib.ListN.{length, getD}
-use Rattle.algebra.specs.Lists.{filter}
+use Rattle.algebra.specs.Lists.{filter, upward}
 use Rattle.algebra.specs.Plans.{Row}
 
 -- ---- buckets
@@ -53,3 +53,9 @@ chain (suc most) next (suc i) = i ∷ chain most next (getD next i 0)
 -- ended
 pub record Index (slot : Row → ℕ) (rs : List Row) (ns heads next : List ℕ) : Type 0 where
   pub bucket : (b : ℕ) → b < 4096 → chain (suc (length ns)) next (getD heads b 0) ≡ inBucket slot rs b ns
+
+-- k rows are indexed by their cell at a place, each chain in the order of the rows
+pub record Linked (place k : ℕ) (rs : List Row) (heads next : List ℕ) : Type 0 where
+  pub all-heads : length heads ≡ 4096
+  pub all-next : k ≤ length next
+  pub index : Index (slotOf place) rs (upward k 0) heads next

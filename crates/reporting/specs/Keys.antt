@@ -4,8 +4,8 @@ use Prim.Native.Nat.{ℕ}
 use mathlib.Core.Bool.{Bool, not, cond, _&&_, _||_}
 use lib.Dec.{eqb, ltb}
 use Rattle.algebra.specs.Cells.{Comparison, eq, compares}
-use Rattle.algebra.specs.Plans.{Env, test, holds}
-use Rattle.reading.specs.Tree.{comparisonOf, formOf}
+use Rattle.algebra.specs.Plans.{Env}
+use Rattle.reading.specs.Tree.{comparisonOf}
 use Rattle.reading.specs.declared.plan.Node.{Node}
 
 -- Select; Semi to Fold; Pair and Group
@@ -27,7 +27,3 @@ keyComparison kind code = cond (ltb kind 12) eq (comparisonOf code)
 -- the left key compared with the right key; a kind without keys asks nothing
 unfoldable pub keysHold : ℕ → Node → Env → Bool
 keysHold kind node env = not (hasKeys kind) || compares (keyComparison kind (node .comparison)) (env (node .left)) (env (node .right))
-
--- the keys compare as the node says, and its test holds under this not-mark
-abbrev pub met : Node → Bool → Env → Bool
-met node negated env = keysHold (node .kind) node env && holds (test negated (formOf (node .test))) env

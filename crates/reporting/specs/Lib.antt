@@ -2,6 +2,8 @@ pub mod Keys
 pub mod Rows
 pub mod Index
 pub mod Positions
+pub mod Sides
+pub mod Grouping
 pub mod Merging
 pub mod Written
 pub mod Evaluation

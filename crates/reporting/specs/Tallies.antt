@@ -2,19 +2,12 @@
 use Prim.Native.Nat.{ℕ, _+_, _*_, _≤_, min, max}
 use mathlib.Core.Bool.{not, cond, _&&_, _||_}
 use mathlib.Core.Path.{_≡_}
-use mathlib.Core.List.{List, map}
+use mathlib.Core.List.{List}
 use lib.Dec.{eqb, ltb}
 use lib.ListN.{length}
 use Rattle.algebra.specs.Lists.{filter, any, total}
 use Rattle.algebra.specs.Cells.{Aggregate, count, over, Summary, sum, least, greatest, blank, offScale, origin, isBlank, needsAll, sumOf, summary}
-use Rattle.algebra.specs.Plans.{Row, Env, bind, measure}
-use Rattle.algebra.specs.Places.{Operator}
-use Rattle.reporting.specs.Rows.{passing, aggregateIn}
 use Rattle.reporting.specs.declared.gather.Tally.{Tally}
-
--- the measured cells of the rows that pass
-unfoldable pub measured : Operator → List ℕ → Env → List Row → List ℕ
-measured op ds env rs = map (λ r. measure (aggregateIn op) (bind ds r env)) (filter (λ r. passing op (bind ds r env)) rs)
 
 abbrev pub notBlank : List ℕ → List ℕ
 notBlank xs = filter (λ x. not (isBlank x)) xs
@@ -58,7 +51,3 @@ tallySummary greatest t = t .greatest
 unfoldable pub tallied : Aggregate → Tally → ℕ
 tallied count t = origin + t .rows
 tallied (over k c) t = cond (t .off) offScale (cond (needsAll k && ltb (t .numbers) (t .rows)) blank (tallySummary k t))
-
--- a tally after one row: its measured cell is added where the row passes, env the environment inside it
-unfoldable pub rowAdded : Operator → Env → Tally → Tally
-rowAdded op env t = cond (passing op env) (added t (measure (aggregateIn op) env)) t

@@ -6,6 +6,7 @@ use mathlib.Core.List.{List, [], _∷_, _++_, map}
 use lib.ListN.{length, take, drop}
 use Rattle.algebra.specs.Plans.{Row, Env, each, cut, emit}
 use Rattle.algebra.specs.Places.{Operator}
+use Rattle.reporting.specs.Positions.{picked}
 use Rattle.reporting.specs.Rows.{chunk, rowAt, rowsFrom, Gives, envOf, gathered, emitted, emittedColumns, emittedMost}
 
 -- after a row of w cells was written at a place: what stands before the place and behind the row is as it was
@@ -26,10 +27,9 @@ pub record Emitted (rows : List Row) (w most r dst rest : ℕ) (entry exit : Lis
 abbrev pub CutWritten : List ℕ → List ℕ → List ℕ → ℕ → ℕ → List ℕ → List ℕ → Type 0
 CutWritten ids cs words src dst entry exit = Written dst (length ids) (cut ids cs (envOf words) (rowAt src (length cs) entry)) entry exit
 
--- the row and the node's aggregate over k right rows, which stand at `behind`
-abbrev pub GatherWritten : Operator → List ℕ → List ℕ → ℕ → ℕ → ℕ → ℕ → ℕ → List ℕ → List ℕ → Type 0
-GatherWritten op ds words src w dst behind k entry exit =
-    Written dst (w + 1) (rowAt src w entry ++ (gathered op ds (envOf words) (rowsFrom behind k (length ds) entry) ∷ [])) entry exit
+-- the row's cells at these positions
+abbrev pub PickWritten : List ℕ → ℕ → ℕ → List ℕ → List ℕ → Type 0
+PickWritten positions src dst entry exit = Written dst (length positions) (picked positions (drop src entry)) entry exit
 
 -- the row joined to each right row
 abbrev pub joinedRows : Row → List Row → List Row
@@ -42,13 +42,3 @@ JoinGiven src w dst behind k v entry exit = Emitted (joinedRows (rowAt src w ent
 abbrev pub EachGiven : List ℕ → ℕ → ℕ → ℕ → ℕ → ℕ → List ℕ → ℕ → List ℕ → Type 0
 EachGiven ds src w dst behind k entry r exit =
     (env : Env) → Emitted (emit each ds (rowAt src w entry) env (rowsFrom behind k (length ds) entry)) (w + length ds) (max 1 k) r dst (src + w) entry exit
-
--- whether the node keeps its left row, of k right rows at the front of `rows`
-abbrev pub KeptBy : Operator → List ℕ → List ℕ → ℕ → List ℕ → Bool → Type 0
-KeptBy op ds words k rows b = (l : Row) → emitted op ds l (envOf words) (chunk k (length ds) rows) ≡ cond b (l ∷ []) []
-
--- whatever the node's kind, with the environment inside the row
-abbrev pub EmitGiven : Operator → List ℕ → List ℕ → List ℕ → ℕ → ℕ → ℕ → ℕ → List ℕ → ℕ → List ℕ → Type 0
-EmitGiven op cs ds words src dst behind k entry r exit =
-    Emitted (emitted op ds (rowAt src (length cs) entry) (envOf words) (rowsFrom behind k (length ds) entry)) (length (emittedColumns op cs ds)) (emittedMost op k) r dst
-    (src + length cs) entry exit

@@ -42,6 +42,9 @@ fn seen(cells: &[u32], k: usize, src: usize, w: usize) -> bool
     false
 }
 
+// A chain that is longer than this is not walked to its end: looking at all rows, which lie side by side, is then quicker.
+const LONG_CHAIN: usize = 8;
+
 // Whether one of the first k rows, which are indexed, is the row at src, whose bucket is b.
 fn seen_linked(
     cells: &[u32],
@@ -59,7 +62,12 @@ fn seen_linked(
     ensures { λ r. ⌜ r ≡ any (λ q. same q (take w (drop src (now (cells .entry))))) (chunk k w (now (cells .entry))) ⌝ }
 {
     let mut h = wide(heads[b]);
+    let mut steps = 0;
     while 0 < h {
+        if steps == LONG_CHAIN {
+            return seen(cells, k, src, w);
+        }
+        steps += 1;
         let i = h - 1;
         let at = i * w;
         if same_row(&cells[at..at + w], &cells[src..src + w]) {

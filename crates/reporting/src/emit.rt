@@ -1,15 +1,23 @@
 // What one left row gives, for each kind with two children. The row stands at src, and k right rows at `behind`; what it gives is written
 // at dst, and ends before the row begins.
 ghost use mathlib.Core.Path.{_≡_};
-ghost use Prim.Native.Nat.{_+_, _*_, _≤_, max};
+ghost use mathlib.Core.Bool.{true};
+ghost use mathlib.Core.List.{[], _∷_, _++_};
+ghost use Prim.Native.Nat.{_+_, _*_, _-_, _≤_, max};
 ghost use lib.ListN.{length, drop, replicate};
 ghost use Rattle.reading.specs.Nodes.{arity};
 ghost use Rattle.reading.specs.Tree.{operatorOf};
+ghost use Rattle.reporting.specs.Index.{Linked};
+ghost use Rattle.reporting.specs.Keys.{hasKeys};
 ghost use Rattle.reporting.specs.Rows.{rowAt, rowsFrom, Gives};
-ghost use Rattle.reporting.specs.Written.{Written, joinedRows, JoinGiven, EachGiven, KeptBy, GatherWritten, EmitGiven};
-ghost use Rattle.reporting.specs.Evaluation.{StepRoom};
+ghost use Rattle.reporting.specs.Sides.{Equals, FoundInside, keepsRow};
+ghost use Rattle.reporting.specs.Written.{Written, joinedRows, JoinGiven, EachGiven};
+ghost use Rattle.reporting.specs.Evaluation.{StepRoom, EmitGiven};
 use crate::gather::gather;
+use crate::gather::gather_linked;
 use crate::rows::copy_row;
+use crate::side::Found;
+use crate::test::any_linked;
 use crate::test::any_row;
 use reading::plan::Node;
 
@@ -74,45 +82,41 @@ fn each_row(
     1
 }
 
-// Whether a Semi, an Anti, a Some or an Every keeps its left row; an Every does where no right row meets its test under the other not-mark.
-fn keeps(node: Node, rows: &[u32], k: usize, jds: &[u8], env: &[u32]) -> bool
-    requires { ⌜ (k * length (now jds) ≤ length (now rows)) × (length (now env) ≡ 256) × (6 ≤ node .kind) × (node .kind ≤ 9) ⌝ }
-    ensures { λ r. ⌜ KeptBy (operatorOf node) (now (jds .entry)) (now (env .entry)) k (now (rows .entry)) r ⌝ }
-{
-    let kind = node.kind;
-    if kind == 9 {
-        return !any_row(node, !node.negated, rows, k, jds, env);
-    }
-    if kind == 7 {
-        return !any_row(node, node.negated, rows, k, jds, env);
-    }
-    any_row(node, node.negated, rows, k, jds, env)
-}
-
-// Writes the row and the node's aggregate over the right rows.
-fn gather_row(
-    node: Node,
-    cells: &mut [u32],
+// Whether a Semi, an Anti, a Some or an Every keeps the left row at src; an Every does where it meets no right row under the other not-mark.
+fn keeps(
+    kind: u8,
+    found: Found,
+    cells: &[u32],
     src: usize,
-    w: usize,
-    dst: usize,
     behind: usize,
     k: usize,
-    jds: &[u8],
-    env: &[u32],
-)
-    requires { ⌜ (length (now env) ≡ 256) × (k ≤ 4096) ⌝ }
-    requires { ⌜ (dst + (w + 1) ≤ src) × (src + w ≤ behind) × (behind + k * length (now jds) ≤ length (now cells)) ⌝ }
-    ensures { λ _. ⌜ GatherWritten (operatorOf node) (now (jds .entry)) (now (env .entry)) src w dst behind k (now (cells .entry)) (now (cells .exit)) ⌝ }
+    v: usize,
+) -> bool
+    requires { ⌜ FoundInside found (length (now cells) - src) v × (behind + k * v ≤ length (now cells)) ⌝ }
+    ensures { λ r. ⌜ r ≡ keepsRow kind found (drop src (now (cells .entry))) (rowsFrom behind k v (now (cells .entry))) ⌝ }
 {
-    let cell = gather(node, &cells[behind..], k, jds, env);
+    if kind == 9 {
+        return !any_row(found.turned(), cells, src, behind, k, v);
+    }
+    if kind == 7 {
+        return !any_row(found, cells, src, behind, k, v);
+    }
+    any_row(found, cells, src, behind, k, v)
+}
+
+// Writes the row at src and a cell behind it at dst.
+fn write_with(cells: &mut [u32], src: usize, w: usize, dst: usize, cell: u32)
+    requires { ⌜ (dst + (w + 1) ≤ src) × (src + w ≤ length (now cells)) ⌝ }
+    ensures { λ _. ⌜ Written dst (w + 1) (rowAt src w (now (cells .entry)) ++ (cell ∷ [])) (now (cells .entry)) (now (cells .exit)) ⌝ }
+{
     copy_row(cells, src, dst, w);
     cells[dst + w] = cell;
 }
 
-// What the left row at src gives, written at dst; env has the row bound already.
+// What the left row at src gives, written at dst, with k right rows at `behind`.
 pub(crate) fn emit_row(
     node: Node,
+    found: Found,
     cells: &mut [u32],
     src: usize,
     ids: &[u8],
@@ -120,12 +124,10 @@ pub(crate) fn emit_row(
     behind: usize,
     k: usize,
     jds: &[u8],
-    env: &[u32],
 ) -> usize
-    requires { ⌜ (length (now env) ≡ 256) × (k ≤ 4096) × (arity (operatorOf node) ≡ 2) ⌝ }
+    requires { ⌜ FoundInside found (length (now ids)) (length (now jds)) × (k ≤ 4096) × (arity (operatorOf node) ≡ 2) ⌝ }
     requires { ⌜ StepRoom (operatorOf node) (now ids) (now jds) k src dst behind × (behind + k * length (now jds) ≤ length (now cells)) ⌝ }
-    ensures { λ r. ⌜ EmitGiven (operatorOf node) (now (ids .entry)) (now (jds .entry)) (now (env .entry))
-        src dst behind k (now (cells .entry)) r (now (cells .exit)) ⌝ }
+    ensures { λ r. ⌜ EmitGiven node found (now (ids .entry)) (now (jds .entry)) src dst behind k (now (cells .entry)) r (now (cells .exit)) ⌝ }
 {
     let w = ids.len();
     let v = jds.len();
@@ -138,14 +140,53 @@ pub(crate) fn emit_row(
         return each_row(cells, src, w, dst, behind, k, jds);
     }
     if kind == 10 {
-        gather_row(node, cells, src, w, dst, behind, k, jds, env);
+        let cell = gather(found, cells, src, behind, k, v);
+        write_with(cells, src, w, dst, cell);
         return 1;
     }
     if kind == 12 {
-        gather_row(node, cells, src, w, dst, behind, k, jds, env);
+        let cell = gather(found, cells, src, behind, k, v);
+        write_with(cells, src, w, dst, cell);
         return 1;
     }
-    if keeps(node, &cells[behind..], k, jds, env) {
+    if keeps(kind, found, cells, src, behind, k, v) {
+        copy_row(cells, src, dst, w);
+        return 1;
+    }
+    0
+}
+
+// The same for a Semi, an Anti or a Pair whose keys are compared by =, through an index of the right rows.
+pub(crate) fn linked_row(
+    node: Node,
+    found: Found,
+    cells: &mut [u32],
+    src: usize,
+    ids: &[u8],
+    dst: usize,
+    behind: usize,
+    k: usize,
+    jds: &[u8],
+    left: usize,
+    right: usize,
+    heads: &[u16],
+    next: &[u16],
+) -> usize
+    requires { ⌜ FoundInside found (length (now ids)) (length (now jds)) × (k ≤ 4096) ⌝ }
+    requires { ⌜ StepRoom (operatorOf node) (now ids) (now jds) k src dst behind × (behind + k * length (now jds) ≤ length (now cells)) ⌝ }
+    requires { ⌜ (hasKeys (node .kind) ≡ true) × (arity (operatorOf node) ≡ 2) × Equals left right (found .keys) ⌝ }
+    requires { ⌜ Linked right k (rowsFrom behind k (length (now jds)) (now cells)) (now heads) (now next) ⌝ }
+    ensures { λ r. ⌜ EmitGiven node found (now (ids .entry)) (now (jds .entry)) src dst behind k (now (cells .entry)) r (now (cells .exit)) ⌝ }
+{
+    let w = ids.len();
+    let v = jds.len();
+    let kind = node.kind;
+    if kind == 12 {
+        let cell = gather_linked(found, cells, src, behind, k, v, left, right, heads, next);
+        write_with(cells, src, w, dst, cell);
+        return 1;
+    }
+    if any_linked(found, cells, src, behind, k, v, left, right, heads, next) != (kind == 7) {
         copy_row(cells, src, dst, w);
         return 1;
     }

@@ -1,20 +1,31 @@
 // The evaluator. Node evaluation and the evaluation of an inner plan for one left row call each other; the subtree gets smaller.
 ghost use mathlib.Core.Path.{_≡_};
+ghost use mathlib.Core.Bool.{true};
 ghost use Prim.Native.Nat.{_+_, _*_, _-_, _≤_};
 ghost use lib.ListN.{length};
 ghost use Rattle.reading.specs.Tree.{operatorOf};
 ghost use Rattle.reading.specs.Nodes.{arity};
-ghost use Rattle.reporting.specs.Rows.{emittedColumns, emittedMost};
+ghost use Rattle.reporting.specs.Index.{Linked};
+ghost use Rattle.reporting.specs.Keys.{hasKeys};
+ghost use Rattle.reporting.specs.Rows.{envOf, rowsFrom, emittedColumns, emittedMost};
+ghost use Rattle.reporting.specs.Sides.{Equals, FoundFor, FoundSomewhere};
 ghost use Rattle.reporting.specs.Evaluation.{columnsAt, boundAt, widthAt, SoundAt, ReadyAt, TreeGiven, UnaryRoom, UnaryGiven};
-ghost use Rattle.reporting.specs.Evaluation.{StepRoom, LoopRoom, PlainStep, PlainGiven, NestedStep, NestedGiven};
+ghost use Rattle.reporting.specs.Evaluation.{StepRoom, LoopRoom, PlainGiven, EmitsGiven, NestedStep, NestedGiven};
 use crate::act::act;
 use crate::columns::columns_into;
 use crate::columns::share_at;
 use crate::columns::tree_part;
 use crate::emit::emit_row;
+use crate::emit::linked_row;
 use crate::env::inner_env;
+use crate::index::build;
 use crate::leaf::leaf;
 use crate::nesting::runs_once;
+use crate::side::Found;
+use crate::side::KeyPlaces;
+use crate::side::find;
+use crate::side::key_places;
+use crate::test::has_keys;
 use reading::kinds::children_of;
 use reading::plan::Node;
 use reading::plan::node_at;
@@ -58,31 +69,137 @@ pub(crate) fn unary_at(
     act(node, cells, own, m, &ids[0..w], env)
 }
 
-// The rows of the left row at src of a node that is not nested, whose k right rows stand at `behind`, at dst.
-fn plain_step(
+// The rows of each of m left rows at `own`, at the front; the k right rows stand at `behind`.
+fn plain_loop(
     node: Node,
+    found: Found,
     cells: &mut [u32],
-    src: usize,
+    own: usize,
+    m: usize,
     ids: &[u8],
-    dst: usize,
     behind: usize,
     k: usize,
     jds: &[u8],
-    env: &[u32],
 ) -> usize
-    requires { ⌜ (arity (operatorOf node) ≡ 2) × (length (now env) ≡ 256) × (k ≤ 4096) ⌝ }
-    requires { ⌜ StepRoom (operatorOf node) (now ids) (now jds) k src dst behind × (behind + k * length (now jds) ≤ length (now cells)) ⌝ }
-    ensures { λ r. ⌜ PlainStep (operatorOf node) (now (ids .entry)) (now (jds .entry)) (now (env .entry))
-        src dst behind k (now (cells .entry)) r (now (cells .exit)) ⌝ }
+    requires { ⌜ FoundSomewhere node (now ids) (now jds) found × (arity (operatorOf node) ≡ 2) ⌝ }
+    requires { ⌜ (length (now ids) ≤ 32) × (length (now jds) ≤ 32) × (k ≤ 4096) × (m * emittedMost (operatorOf node) k ≤ 4096) ⌝ }
+    requires { ⌜ LoopRoom (operatorOf node) (now ids) (now jds) k own m behind × (behind + k * length (now jds) ≤ length (now cells)) ⌝ }
+    ensures { λ r. ⌜ EmitsGiven node found (now (ids .entry)) (now (jds .entry)) own m behind k (now (cells .entry)) r (now (cells .exit)) ⌝ }
 {
     let w = ids.len();
-    let mut inside = [0u32; 256];
-    inner_env(&mut inside, env, ids, &cells[src..src + w]);
-    emit_row(node, cells, src, ids, dst, behind, k, jds, &inside)
+    let wo = emitted_width(node, ids, jds);
+    let mut i = 0;
+    let mut out = 0;
+    let mut src = own;
+    let mut dst = 0;
+    while i < m {
+        let r = emit_row(node, found, cells, src, ids, dst, behind, k, jds);
+        out += r;
+        dst += r * wo;
+        i += 1;
+        src += w;
+    }
+    out
 }
 
-// The rows of each of m left rows at `own`, at the front; the k right rows stand at `behind`.
-fn plain_loop(
+// The same for a Semi, an Anti or a Pair whose keys are compared by =, through an index of the right rows.
+fn linked_loop(
+    node: Node,
+    found: Found,
+    cells: &mut [u32],
+    own: usize,
+    m: usize,
+    ids: &[u8],
+    behind: usize,
+    k: usize,
+    jds: &[u8],
+    left: usize,
+    right: usize,
+    heads: &[u16],
+    next: &[u16],
+) -> usize
+    requires { ⌜ FoundSomewhere node (now ids) (now jds) found × (arity (operatorOf node) ≡ 2) ⌝ }
+    requires { ⌜ (length (now ids) ≤ 32) × (length (now jds) ≤ 32) × (k ≤ 4096) × (m * emittedMost (operatorOf node) k ≤ 4096) ⌝ }
+    requires { ⌜ LoopRoom (operatorOf node) (now ids) (now jds) k own m behind × (behind + k * length (now jds) ≤ length (now cells)) ⌝ }
+    requires { ⌜ (hasKeys (node .kind) ≡ true) × Equals left right (found .keys) ⌝ }
+    requires { ⌜ Linked right k (rowsFrom behind k (length (now jds)) (now cells)) (now heads) (now next) ⌝ }
+    ensures { λ r. ⌜ EmitsGiven node found (now (ids .entry)) (now (jds .entry)) own m behind k (now (cells .entry)) r (now (cells .exit)) ⌝ }
+{
+    let w = ids.len();
+    let wo = emitted_width(node, ids, jds);
+    let mut i = 0;
+    let mut out = 0;
+    let mut src = own;
+    let mut dst = 0;
+    while i < m {
+        let r = linked_row(
+            node,
+            found,
+            cells,
+            src,
+            ids,
+            dst,
+            behind,
+            k,
+            jds,
+            left,
+            right,
+            heads,
+            next,
+        );
+        out += r;
+        dst += r * wo;
+        i += 1;
+        src += w;
+    }
+    out
+}
+
+// The same, with the index made first.
+fn linked_at(
+    node: Node,
+    found: Found,
+    cells: &mut [u32],
+    own: usize,
+    m: usize,
+    ids: &[u8],
+    behind: usize,
+    k: usize,
+    jds: &[u8],
+    left: usize,
+    right: usize,
+) -> usize
+    requires { ⌜ FoundSomewhere node (now ids) (now jds) found × (arity (operatorOf node) ≡ 2) ⌝ }
+    requires { ⌜ (length (now ids) ≤ 32) × (length (now jds) ≤ 32) × (k ≤ 4096) × (m * emittedMost (operatorOf node) k ≤ 4096) ⌝ }
+    requires { ⌜ LoopRoom (operatorOf node) (now ids) (now jds) k own m behind × (behind + k * length (now jds) ≤ length (now cells)) ⌝ }
+    requires { ⌜ (hasKeys (node .kind) ≡ true) × Equals left right (found .keys) ⌝ }
+    ensures { λ r. ⌜ EmitsGiven node found (now (ids .entry)) (now (jds .entry)) own m behind k (now (cells .entry)) r (now (cells .exit)) ⌝ }
+{
+    let mut heads = [0u16; 4096];
+    let mut next = [0u16; 4096];
+    build(&cells[behind..], jds.len(), right, k, &mut heads, &mut next);
+    linked_loop(
+        node,
+        found,
+        cells,
+        own,
+        m,
+        ids,
+        behind,
+        k,
+        jds,
+        left,
+        right,
+        &heads,
+        &next,
+    )
+}
+
+// Right rows are indexed from so many on: with fewer, making the index costs more than it saves.
+const FEW: usize = 32;
+
+// The rows of each of m left rows at `own`, at the front. Its columns are found once, and its right rows are indexed where that serves.
+fn rows_of_each(
     node: Node,
     cells: &mut [u32],
     own: usize,
@@ -93,26 +210,26 @@ fn plain_loop(
     jds: &[u8],
     env: &[u32],
 ) -> usize
-    requires { ⌜ (arity (operatorOf node) ≡ 2) × (length (now env) ≡ 256) × (length (now ids) ≤ 32) × (length (now jds) ≤ 32) ⌝ }
-    requires { ⌜ (k ≤ 4096) × (m * emittedMost (operatorOf node) k ≤ 4096) × (behind + k * length (now jds) ≤ length (now cells)) ⌝ }
-    requires { ⌜ LoopRoom (operatorOf node) (now ids) (now jds) k own m behind ⌝ }
-    ensures { λ r. ⌜ PlainGiven (operatorOf node) (now (ids .entry)) (now (jds .entry)) (now (env .entry))
+    requires { ⌜ (arity (operatorOf node) ≡ 2) × (length (now env) ≡ 256) ⌝ }
+    requires { ⌜ (length (now ids) ≤ 32) × (length (now jds) ≤ 32) × (k ≤ 4096) × (m * emittedMost (operatorOf node) k ≤ 4096) ⌝ }
+    requires { ⌜ LoopRoom (operatorOf node) (now ids) (now jds) k own m behind × (behind + k * length (now jds) ≤ length (now cells)) ⌝ }
+    ensures { λ r. ⌜ PlainGiven (operatorOf node) (now (ids .entry)) (now (jds .entry)) (envOf (now (env .entry)))
         own m behind k (now (cells .entry)) r (now (cells .exit)) ⌝ }
 {
-    let w = ids.len();
-    let wo = emitted_width(node, ids, jds);
-    let mut i = 0;
-    let mut out = 0;
-    let mut src = own;
-    let mut dst = 0;
-    while i < m {
-        let r = plain_step(node, cells, src, ids, dst, behind, k, jds, env);
-        out += r;
-        dst += r * wo;
-        i += 1;
-        src += w;
+    let found = find(node, ids, jds, env);
+    if k < FEW {
+        return plain_loop(node, found, cells, own, m, ids, behind, k, jds);
     }
-    out
+    if !has_keys(node.kind) {
+        return plain_loop(node, found, cells, own, m, ids, behind, k, jds);
+    }
+    let keys = found.keys;
+    match key_places(keys) {
+        KeyPlaces::Equal { left, right } => {
+            linked_at(node, found, cells, own, m, ids, behind, k, jds, left, right)
+        }
+        KeyPlaces::Other => plain_loop(node, found, cells, own, m, ids, behind, k, jds),
+    }
 }
 
 // A node with two children, at places `left` and `right`, whose right rows are the same for every left row; the rows stand at `own` and at
@@ -134,13 +251,13 @@ fn binary_at(
     requires { ⌜ (k ≤ 4096) × (m * emittedMost (operatorOf node) k ≤ 4096) × (behind + k * widthAt (now set) (now plan) right ≤ length (now cells)) ⌝ }
     requires { ⌜ LoopRoom (operatorOf node) (columnsAt (now set) (now plan) left) (columnsAt (now set) (now plan) right) k own m behind ⌝ }
     ensures { λ r. ⌜ PlainGiven (operatorOf node) (columnsAt (now (set .entry)) (now (plan .entry)) left)
-        (columnsAt (now (set .entry)) (now (plan .entry)) right) (now (env .entry)) own m behind k (now (cells .entry)) r (now (cells .exit)) ⌝ }
+        (columnsAt (now (set .entry)) (now (plan .entry)) right) (envOf (now (env .entry))) own m behind k (now (cells .entry)) r (now (cells .exit)) ⌝ }
 {
     let mut ids = [0u8; 32];
     let w = columns_into(set, plan, left, &mut ids);
     let mut jds = [0u8; 32];
     let v = columns_into(set, plan, right, &mut jds);
-    plain_loop(node, cells, own, m, &ids[0..w], behind, k, &jds[0..v], env)
+    rows_of_each(node, cells, own, m, &ids[0..w], behind, k, &jds[0..v], env)
 }
 
 // ---- the cycle
@@ -151,6 +268,7 @@ fn row_step(
     plan: &[u8],
     inner: usize,
     node: Node,
+    found: Found,
     cells: &mut [u32],
     src: usize,
     ids: &[u8],
@@ -159,6 +277,7 @@ fn row_step(
     jds: &[u8],
     env: &[u32],
 ) -> usize
+    requires { ⌜ FoundFor node (now ids) (now jds) (envOf (now env)) found ⌝ }
     requires { ⌜ (arity (operatorOf node) ≡ 2) × (now jds ≡ columnsAt (now set) (now plan) inner) × (behind ≤ length (now cells)) ⌝ }
     requires { ⌜ StepRoom (operatorOf node) (now ids) (now jds) (boundAt (now set) (now plan) inner) src dst behind ⌝ }
     requires { ⌜ ReadyAt (now set) (now plan) inner (length (now cells) - behind) (length (now env)) ⌝ }
@@ -169,7 +288,7 @@ fn row_step(
     let mut inside = [0u32; 256];
     inner_env(&mut inside, env, ids, &cells[src..src + w]);
     let k = eval(set, plan, inner, &mut cells[behind..], &inside);
-    emit_row(node, cells, src, ids, dst, behind, k, jds, &inside)
+    emit_row(node, found, cells, src, ids, dst, behind, k, jds)
 }
 
 // Gives the rows of each of m left rows at `own`, at the front.
@@ -195,6 +314,7 @@ fn nested_loop(
 {
     let w = ids.len();
     let wo = emitted_width(node, ids, jds);
+    let found = find(node, ids, jds, env);
     let mut i = 0;
     let mut out = 0;
     let mut src = own;
@@ -205,6 +325,7 @@ fn nested_loop(
             plan,
             inner,
             node,
+            found,
             cells,
             src,
             ids,

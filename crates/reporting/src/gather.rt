@@ -2,18 +2,22 @@
 ghost use mathlib.Core.Path.{_≡_};
 ghost use mathlib.Core.Bool.{cond, _||_};
 ghost use mathlib.Core.List.{[]};
-ghost use Prim.Native.Nat.{ℕ, _*_, _≤_, _<_, max};
+ghost use Prim.Native.Nat.{ℕ, _+_, _*_, _-_, _≤_, _<_, max};
 ghost use lib.Dec.{ltb};
-ghost use lib.ListN.{length};
+ghost use lib.ListN.{length, drop};
 ghost use Rattle.algebra.specs.Cells.{blank, sumOf};
-ghost use Rattle.algebra.specs.Plans.{bind, measure};
 ghost use Rattle.reading.specs.Tree.{aggregateOf, operatorOf};
-ghost use Rattle.reporting.specs.Rows.{chunk, envOf, aggregateIn, gathered};
-ghost use Rattle.reporting.specs.Tallies.{Tallies, Bounded, lesser, added, tallied, rowAdded};
-use crate::env::column;
-use crate::test::has_test;
-use crate::test::keys_hold;
-use crate::test::test_holds;
+ghost use Rattle.reporting.specs.Index.{Linked};
+ghost use Rattle.reporting.specs.Rows.{rowsFrom, aggregateIn};
+ghost use Rattle.reporting.specs.Sides.{Equals, FoundInside, foundCell};
+ghost use Rattle.reporting.specs.Tallies.{Tallies, Bounded, lesser, added, tallied};
+use crate::cells::is_number;
+use crate::index::bucket;
+use crate::index::wide;
+use crate::side::Found;
+use crate::side::side_cell;
+use crate::test::linked_meets;
+use crate::test::row_meets;
 use reading::plan::Node;
 
 // What the measured cells of the rows that passed so far come to: how many rows; of those with no blank how many, their sum, the least
@@ -144,7 +148,7 @@ impl Tally {
 // ---- The rows
 
 // The code of a node's aggregate; a kind without one counts.
-fn aggregate_code(node: Node) -> u8
+pub(crate) fn aggregate_code(node: Node) -> u8
     ensures { λ r. ⌜ aggregateOf r (node .column) ≡ aggregateIn (operatorOf node) ⌝ }
 {
     let kind = node.kind;
@@ -160,51 +164,63 @@ fn aggregate_code(node: Node) -> u8
     node.arg
 }
 
-// What the aggregate reads of a row; a count reads nothing.
-fn measured_cell(code: u8, id: u8, ids: &[u8], row: &[u32], env: &[u32]) -> u32
-    requires { ⌜ (length (now ids) ≡ length (now row)) × (length (now env) ≡ 256) ⌝ }
-    ensures { λ r. ⌜ r ≡ measure (aggregateOf code id) (bind (now (ids .entry)) (now (row .entry)) (envOf (now (env .entry)))) ⌝ }
+// The aggregate over those of the k right rows of v cells at `behind` that the left row at src meets.
+pub(crate) fn gather(
+    found: Found,
+    cells: &[u32],
+    src: usize,
+    behind: usize,
+    k: usize,
+    v: usize,
+) -> u32
+    requires { ⌜ FoundInside found (length (now cells) - src) v × (behind + k * v ≤ length (now cells)) × (k ≤ 4096) ⌝ }
+    ensures { λ r. ⌜ r ≡ foundCell found (drop src (now (cells .entry))) (rowsFrom behind k v (now (cells .entry))) ⌝ }
 {
-    if code == 0 {
-        return 0;
-    }
-    column(ids, row, env, id)
-}
-
-// The tally after one row: its measured cell is added where the row passes.
-fn gather_row(node: Node, code: u8, tally: Tally, ids: &[u8], row: &[u32], env: &[u32]) -> Tally
-    requires { ⌜ (length (now ids) ≡ length (now row)) × (length (now env) ≡ 256) ⌝ }
-    requires { ⌜ aggregateOf code (node .column) ≡ aggregateIn (operatorOf node) ⌝ }
-    requires { ⌜ (tally .rows < 4096) × Bounded tally ⌝ }
-    ensures { λ r. ⌜ (r ≡ rowAdded (operatorOf node) (bind (now (ids .entry)) (now (row .entry)) (envOf (now (env .entry)))) tally) × Bounded r ⌝ }
-{
-    if has_test(node.kind) {
-        if !keys_hold(node, ids, row, env) {
-            return tally;
-        }
-        let form = node.test;
-        if !test_holds(node.negated, form, ids, row, env) {
-            return tally;
-        }
-    }
-    let cell = measured_cell(code, node.column, ids, row, env);
-    tally.add(cell)
-}
-
-// The node's aggregate over those of k rows that pass it.
-pub(crate) fn gather(node: Node, rows: &[u32], k: usize, ids: &[u8], env: &[u32]) -> u32
-    requires { ⌜ (k * length (now ids) ≤ length (now rows)) × (k ≤ 4096) × (length (now env) ≡ 256) ⌝ }
-    ensures { λ r. ⌜ r ≡ gathered (operatorOf node) (now (ids .entry)) (envOf (now (env .entry))) (chunk k (length (now (ids .entry))) (now (rows .entry))) ⌝ }
-{
-    let w = ids.len();
-    let code = aggregate_code(node);
+    let measured = found.measured;
     let mut tally = Tally::none();
     let mut i = 0;
-    let mut at = 0;
+    let mut at = behind;
     while i < k {
-        tally = gather_row(node, code, tally, ids, &rows[at..at + w], env);
+        if row_meets(found, cells, src, at) {
+            tally = tally.add(side_cell(measured, cells, src, at));
+        }
         i += 1;
-        at += w;
+        at += v;
     }
-    tally.result(code)
+    tally.result(found.code)
+}
+
+// The same through an index of the right rows: only those of the key's bucket are asked. A blank or off-scale key meets none.
+pub(crate) fn gather_linked(
+    found: Found,
+    cells: &[u32],
+    src: usize,
+    behind: usize,
+    k: usize,
+    v: usize,
+    left: usize,
+    right: usize,
+    heads: &[u16],
+    next: &[u16],
+) -> u32
+    requires { ⌜ FoundInside found (length (now cells) - src) v × (behind + k * v ≤ length (now cells)) × (k ≤ 4096) ⌝ }
+    requires { ⌜ Equals left right (found .keys) × Linked right k (rowsFrom behind k v (now cells)) (now heads) (now next) ⌝ }
+    ensures { λ r. ⌜ r ≡ foundCell found (drop src (now (cells .entry))) (rowsFrom behind k v (now (cells .entry))) ⌝ }
+{
+    let measured = found.measured;
+    let mut tally = Tally::none();
+    let key = cells[src + left];
+    if !is_number(key) {
+        return tally.result(found.code);
+    }
+    let mut h = wide(heads[bucket(key)]);
+    while 0 < h {
+        let i = h - 1;
+        let at = behind + i * v;
+        if linked_meets(found, cells, src, at, left, right, key) {
+            tally = tally.add(side_cell(measured, cells, src, at));
+        }
+        h = wide(next[i]);
+    }
+    tally.result(found.code)
 }

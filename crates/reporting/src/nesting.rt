@@ -17,11 +17,11 @@ fn is_nested(node: Node) -> bool
     kind < 12
 }
 
-// Finding out whether an inner plan names a column of the left rows takes about as long as running it a few times.
-const MANY_ROWS: usize = 16;
+// Whether an inner plan names a column of the left rows is found out from so many of them on: that takes as long as running it once or twice.
+const FEW: usize = 4;
 
 // Whether the second child of a node, at place `right`, is run once for all of the m rows of the first, at place `left`: where the node is not
-// nested, and where there are many left rows and the inner plan names none of their columns, so that it gives each of them the same rows.
+// nested, and where there are not few left rows and the inner plan names none of their columns, so that it gives each of them the same rows.
 pub(crate) fn runs_once(
     set: &[u8],
     plan: &[u8],
@@ -35,7 +35,7 @@ pub(crate) fn runs_once(
     if !is_nested(node) {
         return true;
     }
-    if m < MANY_ROWS {
+    if m < FEW {
         return false;
     }
     avoids_at(set, plan, right, left)

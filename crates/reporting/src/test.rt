@@ -1,62 +1,25 @@
-// Tests of rows.
+// What a node asks of a left row and a right row.
 ghost use mathlib.Core.Path.{_≡_};
-ghost use Prim.Native.Nat.{_*_, _≤_};
-ghost use lib.ListN.{length};
+ghost use mathlib.Core.Bool.{true};
+ghost use Prim.Native.Nat.{_+_, _*_, _-_, _≤_, _<_};
+ghost use lib.ListN.{length, drop, getD};
+ghost use Rattle.algebra.specs.Cells.{isNumber};
 ghost use Rattle.algebra.specs.Lists.{any};
-ghost use Rattle.algebra.specs.Plans.{bind, test, holds};
-ghost use Rattle.reading.specs.Tree.{comparisonOf, formOf};
-ghost use Rattle.reporting.specs.Rows.{chunk, envOf};
-ghost use Rattle.reporting.specs.Keys.{hasTest, hasKeys, keyComparison, keysHold, met};
+ghost use Rattle.reading.specs.Tree.{comparisonOf};
+ghost use Rattle.reporting.specs.Index.{Linked};
+ghost use Rattle.reporting.specs.Keys.{hasKeys, keyComparison};
+ghost use Rattle.reporting.specs.Rows.{rowsFrom};
+ghost use Rattle.reporting.specs.Sides.{conditionHolds, ConditionInside, Equals, FoundInside, meets};
 use crate::cells::compare;
-use crate::env::column;
-use reading::plan::Node;
-use reading::plan::Test;
-
-// Whether a row of these columns meets a test under its not-mark.
-pub(crate) fn test_holds(negated: bool, form: Test, ids: &[u8], row: &[u32], env: &[u32]) -> bool
-    requires { ⌜ (length (now ids) ≡ length (now row)) × (length (now env) ≡ 256) ⌝ }
-    ensures { λ r. ⌜ r ≡ holds (test negated (formOf form)) (bind (now (ids .entry)) (now (row .entry)) (envOf (now (env .entry)))) ⌝ }
-{
-    match form {
-        Test::Always => !negated,
-        Test::Columns {
-            comparison,
-            left,
-            right,
-        } => {
-            let a = column(ids, row, env, left);
-            let b = column(ids, row, env, right);
-            compare(comparison, a, b) != negated
-        }
-        Test::Number {
-            comparison,
-            left,
-            number,
-        } => {
-            let a = column(ids, row, env, left);
-            compare(comparison, a, number) != negated
-        }
-    }
-}
-
-// Whether a kind has a test.
-pub(crate) fn has_test(kind: u8) -> bool
-    ensures { λ r. ⌜ r ≡ hasTest kind ⌝ }
-{
-    if kind == 2 {
-        return true;
-    }
-    if kind < 6 {
-        return false;
-    }
-    if kind == 11 {
-        return false;
-    }
-    kind < 14
-}
+use crate::cells::is_number;
+use crate::index::bucket;
+use crate::index::wide;
+use crate::side::Condition;
+use crate::side::Found;
+use crate::side::side_cell;
 
 // Whether a kind compares a left key with a right key.
-fn has_keys(kind: u8) -> bool
+pub(crate) fn has_keys(kind: u8) -> bool
     ensures { λ r. ⌜ r ≡ hasKeys kind ⌝ }
 {
     if kind < 6 {
@@ -72,7 +35,7 @@ fn has_keys(kind: u8) -> bool
 }
 
 // The comparison of keys: = for a Semi and an Anti, the node's for a Pair and a Group.
-fn key_comparison(kind: u8, comparison: u8) -> u8
+pub(crate) fn key_comparison(kind: u8, comparison: u8) -> u8
     ensures { λ r. ⌜ comparisonOf r ≡ keyComparison kind comparison ⌝ }
 {
     if kind < 12 {
@@ -81,45 +44,107 @@ fn key_comparison(kind: u8, comparison: u8) -> u8
     comparison
 }
 
-// Whether the keys of a row compare as the node says; a kind without keys asks nothing.
-pub(crate) fn keys_hold(node: Node, ids: &[u8], row: &[u32], env: &[u32]) -> bool
-    requires { ⌜ (length (now ids) ≡ length (now row)) × (length (now env) ≡ 256) ⌝ }
-    ensures { λ r. ⌜ r ≡ keysHold (node .kind) node (bind (now (ids .entry)) (now (row .entry)) (envOf (now (env .entry)))) ⌝ }
+// Whether a condition holds of the left row at src and the right row at `at`.
+pub(crate) fn condition_holds(condition: Condition, cells: &[u32], src: usize, at: usize) -> bool
+    requires { ⌜ ConditionInside condition (length (now cells) - src) (length (now cells) - at) ⌝ }
+    ensures { λ r. ⌜ r ≡ conditionHolds condition (drop src (now (cells .entry))) (drop at (now (cells .entry))) ⌝ }
 {
-    let kind = node.kind;
-    if !has_keys(kind) {
-        return true;
+    if condition.always {
+        return !condition.negated;
     }
-    let a = column(ids, row, env, node.left);
-    let b = column(ids, row, env, node.right);
-    compare(key_comparison(kind, node.comparison), a, b)
+    let left = condition.left;
+    let right = condition.right;
+    let a = side_cell(left, cells, src, at);
+    let b = side_cell(right, cells, src, at);
+    compare(condition.comparison, a, b) != condition.negated
 }
 
-// Whether some of k rows meets the node's keys, and its test under this not-mark. It stops at the first.
-pub(crate) fn any_row(
-    node: Node,
-    negated: bool,
-    rows: &[u32],
-    k: usize,
-    ids: &[u8],
-    env: &[u32],
-) -> bool
-    requires { ⌜ (k * length (now ids) ≤ length (now rows)) × (length (now env) ≡ 256) ⌝ }
-    ensures { λ r. ⌜ r ≡ any (λ q. met node negated (bind (now (ids .entry)) q (envOf (now (env .entry)))))
-        (chunk k (length (now (ids .entry))) (now (rows .entry))) ⌝ }
+// Whether the left row at src and the right row at `at` meet the keys and the test: keys first.
+pub(crate) fn row_meets(found: Found, cells: &[u32], src: usize, at: usize) -> bool
+    requires { ⌜ FoundInside found (length (now cells) - src) (length (now cells) - at) ⌝ }
+    ensures { λ r. ⌜ r ≡ meets found (drop src (now (cells .entry))) (drop at (now (cells .entry))) ⌝ }
 {
-    let w = ids.len();
-    let form = node.test;
+    let keys = found.keys;
+    if !condition_holds(keys, cells, src, at) {
+        return false;
+    }
+    let test = found.test;
+    condition_holds(test, cells, src, at)
+}
+
+// The same where the keys are compared by = and the left one is known to be a number: the cells are the same.
+pub(crate) fn linked_meets(
+    found: Found,
+    cells: &[u32],
+    src: usize,
+    at: usize,
+    left: usize,
+    right: usize,
+    key: u32,
+) -> bool
+    requires { ⌜ FoundInside found (length (now cells) - src) (length (now cells) - at) × Equals left right (found .keys) ⌝ }
+    requires { ⌜ (key ≡ getD (drop src (now cells)) left 0) × (isNumber key ≡ true) ⌝ }
+    ensures { λ r. ⌜ r ≡ meets found (drop src (now (cells .entry))) (drop at (now (cells .entry))) ⌝ }
+{
+    if cells[at + right] != key {
+        return false;
+    }
+    let test = found.test;
+    condition_holds(test, cells, src, at)
+}
+
+// Whether the left row at src meets some of the k right rows of v cells at `behind`. It stops at the first.
+pub(crate) fn any_row(
+    found: Found,
+    cells: &[u32],
+    src: usize,
+    behind: usize,
+    k: usize,
+    v: usize,
+) -> bool
+    requires { ⌜ FoundInside found (length (now cells) - src) v × (behind + k * v ≤ length (now cells)) ⌝ }
+    ensures { λ r. ⌜ r ≡ any (meets found (drop src (now (cells .entry)))) (rowsFrom behind k v (now (cells .entry))) ⌝ }
+{
     let mut i = 0;
-    let mut at = 0;
+    let mut at = behind;
     while i < k {
-        if keys_hold(node, ids, &rows[at..at + w], env) {
-            if test_holds(negated, form, ids, &rows[at..at + w], env) {
-                return true;
-            }
+        if row_meets(found, cells, src, at) {
+            return true;
         }
         i += 1;
-        at += w;
+        at += v;
+    }
+    false
+}
+
+// The same through an index of the right rows: only those of the key's bucket are asked. A blank or off-scale key meets none.
+pub(crate) fn any_linked(
+    found: Found,
+    cells: &[u32],
+    src: usize,
+    behind: usize,
+    k: usize,
+    v: usize,
+    left: usize,
+    right: usize,
+    heads: &[u16],
+    next: &[u16],
+) -> bool
+    requires { ⌜ FoundInside found (length (now cells) - src) v × (behind + k * v ≤ length (now cells)) ⌝ }
+    requires { ⌜ Equals left right (found .keys) × Linked right k (rowsFrom behind k v (now cells)) (now heads) (now next) ⌝ }
+    ensures { λ r. ⌜ r ≡ any (meets found (drop src (now (cells .entry)))) (rowsFrom behind k v (now (cells .entry))) ⌝ }
+{
+    let key = cells[src + left];
+    if !is_number(key) {
+        return false;
+    }
+    let mut h = wide(heads[bucket(key)]);
+    while 0 < h {
+        let i = h - 1;
+        if linked_meets(found, cells, src, behind + i * v, left, right, key) {
+            return true;
+        }
+        h = wide(next[i]);
     }
     false
 }

@@ -1,172 +1,150 @@
-use mathlib.Core.Path.{_≡_, sym, ap, _∙_}
-use mathlib.Core.Bool.{Bool, true, false, cond}
-use mathlib.Core.List.{List, [], _∷_}
-use Prim.Native.Nat.{ℕ, _+_, _-_, _≤_}
+use mathlib.Core.Path.{sym, _∙_}
+use mathlib.Core.Logic.{inl, inr}
+use Prim.Native.Nat.{_-_, _≤_}
 use native.Mathlib.Omega.{arith}
-use lib.ListN.{length, drop, length-drop}
-use Rattle.algebra.specs.Plans.{Row}
-use Rattle.reading.specs.Tree.{operatorOf}
-use Rattle.reporting.specs.Rows.{chunk, rowAt, rowsFrom, envOf, emitted}
-use Rattle.reporting.proofs.Copies.{written-copy}
-use Rattle.reporting.proofs.Emits.{two-children, crosses, eaches, gathers-fold, gathers-pair, keeping, emitted-one, emitted-none}
-use Rattle.reporting.proofs.Lent.{tail-part}
+use lib.ListN.{length}
+use Rattle.reporting.specs.Sides.{FoundInside}
+use Rattle.reporting.proofs.Sides.{found-wider}
+use Rattle.reporting.proofs.Emits.{two-children, crosses, eaches, gathers, keeping, cell-given, kept-given, none-given}
 use borrow.Author.Needs.{needs}
 use Rattle.reporting.proofs.emit.emit_row.Statement.{statement}
 use Rattle.reporting.proofs.emit.emit_row.Tie as tie
 
 -- a kind that keeps rows
-keeping-kind : (c : tie.Else4) → (6 ≤ c .before .before .before .before .before .before .before .before .args .node .kind) × (c .before .before .before .before .before .before .before .before .args .node .kind ≤ 9)
+keeping-kind : (c : tie.Else4) → (6 ≤ c .before .before .before .before .before .before .before .args .node .kind) × (c .before .before .before .before .before .before .before .args .node .kind ≤ 9)
 keeping-kind c =
-    let (low, high) = two-children (c .before .before .before .before .before .before .before .before .args .node) (c .before .before .before .before .before .before .before .before .pre .0 .2) in
+    let (low, high) = two-children (c .before .before .before .before .before .before .before .args .node) (c .before .before .before .before .before .before .before .pre .0 .2) in
     let not-5 = c .before .before .before .if1 .left in
     let not-11 = c .before .before .if2 .left in
     let not-10 = c .before .if3 .left in
     let not-12 = c .if4 .left in
     omega arith
 
--- what the row gives
-kept-rows : (c : tie.After-keeps) (b : Bool) → c .keeps .result ≡ b → let a = c .before .before .before .before .before .before .before .before .before .before .before .args in
-    emitted (operatorOf (a .node)) (a .jds .now) (rowAt (a .src) (length (a .ids .now)) (a .cells .now)) (envOf (a .env .now)) (rowsFrom (a .behind) (a .k) (length (a .jds .now)) (a .cells .now))
-    ≡ cond b (rowAt (a .src) (length (a .ids .now)) (a .cells .now) ∷ []) []
-kept-rows c b e =
-    let a = c .before .before .before .before .before .before .before .before .before .before .before .args in
-    let l : Row = rowAt (a .src) (length (a .ids .now)) (a .cells .now) in
-    ap (λ (x : List ℕ). emitted (operatorOf (a .node)) (a .jds .now) l (envOf (a .env .now)) (chunk (a .k) (length (a .jds .now)) x)) (sym (tail-part (a .behind) (a .cells .now)))
-    ∙ c .keeps .ensures l
-    ∙ ap (λ x. cond x (l ∷ []) []) e
+-- the columns lie in the cells from src on
+found-inside : (c : tie.Start) → FoundInside (c .args .found) (length (c .args .cells .now) - c .args .src) (length (c .args .jds .now))
+found-inside c =
+    let a = c .args in
+    let p = c .pre in
+    found-wider (a .found) (length (a .ids .now)) (length (a .jds .now)) (length (a .cells .now) - a .src) (length (a .jds .now)) (p .0 .0) (omega (arith, p .1 .0 .apart, p .1 .1)) (omega arith)
 
--- src/emit.rt:134:9
+-- src/emit.rt:136:9
 join-at-requires : tie.Need-join-at-requires
 join-at-requires c κs =
-    let a = c .before .before .before .before .before .before .args in
-    let p = c .before .before .before .before .before .before .pre .1 in
-    let g = crosses (a .node) (a .ids .now) (a .jds .now) (a .env .now) (a .src) (a .dst) (a .behind) (a .k) (a .cells .now) (c .before .if1 .taken) in
+    let a = c .before .before .before .before .before .args in
+    let p = c .before .before .before .before .before .pre .1 in
+    let g = crosses (a .node) (a .ids .now) (a .jds .now) (a .src) (a .dst) (a .behind) (a .k) (a .cells .now) (c .before .if1 .taken) in
     (g .0 (p .0), p .0 .apart, p .1)
 
--- src/emit.rt:135:9
+-- src/emit.rt:137:9
 same-length : tie.Need-same-length
 same-length c = search needs
 
--- src/emit.rt:135:9
+-- src/emit.rt:137:9
 returns : tie.Need-returns
 returns c =
-    let a = c .before .before .before .before .before .before .before .before .before .args in
-    let g = crosses (a .node) (a .ids .now) (a .jds .now) (a .env .now) (a .src) (a .dst) (a .behind) (a .k) (a .cells .now) (c .before .before .before .before .if1 .taken) in
-    g .1 (c .before .before .join-at .last .0) (c .before .before .join-at .ensures)
+    let a = c .before .before .before .before .before .before .before .before .args in
+    let g = crosses (a .node) (a .ids .now) (a .jds .now) (a .src) (a .dst) (a .behind) (a .k) (a .cells .now) (c .before .before .before .before .if1 .taken) in
+    λ env found. g .1 env (c .before .before .join-at .last .0) (c .before .before .join-at .ensures)
 
--- src/emit.rt:138:9
+-- src/emit.rt:140:9
 each-row-requires : tie.Need-each-row-requires
 each-row-requires c κs =
-    let a = c .before .before .before .before .before .before .before .args in
-    let p = c .before .before .before .before .before .before .before .pre .1 in
-    let g = eaches (a .node) (a .ids .now) (a .jds .now) (a .env .now) (a .src) (a .dst) (a .behind) (a .k) (a .cells .now) (c .before .if2 .taken) in
+    let a = c .before .before .before .before .before .before .args in
+    let p = c .before .before .before .before .before .before .pre .1 in
+    let g = eaches (a .node) (a .ids .now) (a .jds .now) (a .src) (a .dst) (a .behind) (a .k) (a .cells .now) (c .before .if2 .taken) in
     (g .0 (p .0), p .0 .apart, p .1)
 
--- src/emit.rt:138:9
+-- src/emit.rt:140:9
 same-length-2 : tie.Need-same-length-2
 same-length-2 c = search needs
 
--- src/emit.rt:138:9
+-- src/emit.rt:140:9
 returns-2 : tie.Need-returns-2
 returns-2 c =
-    let a = c .before .before .before .before .before .before .before .before .before .before .args in
-    let g = eaches (a .node) (a .ids .now) (a .jds .now) (a .env .now) (a .src) (a .dst) (a .behind) (a .k) (a .cells .now) (c .before .before .before .before .if2 .taken) in
-    g .1 (c .before .before .each-row .result) (c .before .before .each-row .last .0) (c .before .before .each-row .ensures)
+    let a = c .before .before .before .before .before .before .before .before .before .args in
+    let g = eaches (a .node) (a .ids .now) (a .jds .now) (a .src) (a .dst) (a .behind) (a .k) (a .cells .now) (c .before .before .before .before .if2 .taken) in
+    λ env found. g .1 env (c .before .before .each-row .result) (c .before .before .each-row .last .0) (c .before .before .each-row .ensures)
 
--- src/emit.rt:141:9
-gather-row-requires : tie.Need-gather-row-requires
-gather-row-requires c κs =
-    let a = c .before .before .before .before .before .before .before .before .args in
-    let p = c .before .before .before .before .before .before .before .before .pre .1 in
-    let g = gathers-fold (a .node) (a .ids .now) (a .jds .now) (a .env .now) (a .src) (a .dst) (a .behind) (a .k) (a .cells .now) (c .before .if3 .taken) in
-    omega (arith, g .0 (p .0), p .0 .apart, p .1, c .before .before .before .before .before .before .before .before .pre .0)
+-- src/emit.rt:143:13
+gather-requires : tie.Need-gather-requires
+gather-requires c κs = (found-inside (c .before .before .before .before .before .before .before), c .before .before .before .before .before .before .before .pre .1 .1, c .before .before .before .before .before .before .before .pre .0 .1)
 
--- src/emit.rt:142:9
+-- src/emit.rt:144:9
+write-with-requires : tie.Need-write-with-requires
+write-with-requires c κs =
+    let a = c .before .before .before .before .before .before .before .before .before .args in
+    let p = c .before .before .before .before .before .before .before .before .before .pre .1 in
+    (gathers (a .node) (a .ids .now) (a .jds .now) (a .src) (a .dst) (a .behind) (a .k) (a .cells .now) (inl (c .before .before .before .if3 .taken)) .1 (p .0), omega (arith, p .0 .apart, p .1))
+
+-- src/emit.rt:145:9
 same-length-3 : tie.Need-same-length-3
 same-length-3 c = search needs
 
--- src/emit.rt:142:9
+-- src/emit.rt:145:9
 returns-3 : tie.Need-returns-3
 returns-3 c =
-    let a = c .before .before .before .before .before .before .before .before .before .before .before .args in
-    let p = c .before .before .before .before .before .before .before .before .before .before .before .pre .1 in
-    let g = gathers-fold (a .node) (a .ids .now) (a .jds .now) (a .env .now) (a .src) (a .dst) (a .behind) (a .k) (a .cells .now) (c .before .before .before .before .if3 .taken) in
-    g .1 (c .before .before .gather-row .last .1 .0) (p .0) (c .before .before .gather-row .ensures)
+    let a = c .before .before .before .before .before .before .before .before .before .before .before .before .args in
+    cell-given (a .node) (a .found) (a .ids .now) (a .jds .now) (a .src) (a .dst) (a .behind) (a .k) (a .cells .now) (c .before .before .before .before .before .before .before .before .before .before .before .before .pre .1 .0)
+    (inl (c .before .before .before .before .before .before .if3 .taken)) (c .before .before .before .before .gather .result) (c .before .before .write-with .last .0) (c .before .before .before .before .gather .ensures) (c .before .before .write-with .ensures)
 
--- src/emit.rt:145:9
-gather-row-requires-2 : tie.Need-gather-row-requires-2
-gather-row-requires-2 c κs =
-    let a = c .before .before .before .before .before .before .before .before .before .args in
-    let p = c .before .before .before .before .before .before .before .before .before .pre .1 in
-    let g = gathers-pair (a .node) (a .ids .now) (a .jds .now) (a .env .now) (a .src) (a .dst) (a .behind) (a .k) (a .cells .now) (c .before .if4 .taken) in
-    omega (arith, g .0 (p .0), p .0 .apart, p .1, c .before .before .before .before .before .before .before .before .before .pre .0)
+-- src/emit.rt:148:13
+gather-requires-2 : tie.Need-gather-requires-2
+gather-requires-2 c κs = (found-inside (c .before .before .before .before .before .before .before .before), c .before .before .before .before .before .before .before .before .pre .1 .1, c .before .before .before .before .before .before .before .before .pre .0 .1)
 
--- src/emit.rt:146:9
+-- src/emit.rt:149:9
+write-with-requires-2 : tie.Need-write-with-requires-2
+write-with-requires-2 c κs =
+    let a = c .before .before .before .before .before .before .before .before .before .before .args in
+    let p = c .before .before .before .before .before .before .before .before .before .before .pre .1 in
+    (gathers (a .node) (a .ids .now) (a .jds .now) (a .src) (a .dst) (a .behind) (a .k) (a .cells .now) (inr (c .before .before .before .if4 .taken)) .1 (p .0), omega (arith, p .0 .apart, p .1))
+
+-- src/emit.rt:150:9
 same-length-4 : tie.Need-same-length-4
 same-length-4 c = search needs
 
--- src/emit.rt:146:9
+-- src/emit.rt:150:9
 returns-4 : tie.Need-returns-4
 returns-4 c =
-    let a = c .before .before .before .before .before .before .before .before .before .before .before .before .args in
-    let p = c .before .before .before .before .before .before .before .before .before .before .before .before .pre .1 in
-    let g = gathers-pair (a .node) (a .ids .now) (a .jds .now) (a .env .now) (a .src) (a .dst) (a .behind) (a .k) (a .cells .now) (c .before .before .before .before .if4 .taken) in
-    g .1 (c .before .before .gather-row2 .last .1 .0) (p .0) (c .before .before .gather-row2 .ensures)
+    let a = c .before .before .before .before .before .before .before .before .before .before .before .before .before .args in
+    cell-given (a .node) (a .found) (a .ids .now) (a .jds .now) (a .src) (a .dst) (a .behind) (a .k) (a .cells .now) (c .before .before .before .before .before .before .before .before .before .before .before .before .before .pre .1 .0)
+    (inr (c .before .before .before .before .before .before .if4 .taken)) (c .before .before .before .before .gather2 .result) (c .before .before .write-with2 .last .0) (c .before .before .before .before .gather2 .ensures) (c .before .before .write-with2 .ensures)
 
--- src/emit.rt:148:20
-mul-keeps : tie.Need-mul-keeps
-mul-keeps c = search needs
-
--- src/emit.rt:148:20
-sub-keeps : tie.Need-sub-keeps
-sub-keeps c = search needs
-
--- src/emit.rt:148:20
-part-keeps-start : tie.Need-part-keeps-start
-part-keeps-start c = search needs
-
--- src/emit.rt:148:20
-part-keeps-end : tie.Need-part-keeps-end
-part-keeps-end c = search needs
-
--- src/emit.rt:148:8
+-- src/emit.rt:152:8
 keeps-requires : tie.Need-keeps-requires
-keeps-requires c κs = omega (arith, keeping-kind (c .before .before), c .before .before .before .before .before .before .before .before .before .before .pre, length-drop (c .before .before .before .before .before .before .before .before .before .before .args .behind) (c .before .before .before .before .before .before .before .before .before .before .args .cells .now), ap length (tail-part (c .before .before .before .before .before .before .before .before .before .before .args .behind) (c .before .before .before .before .before .before .before .before .before .before .args .cells .now)))
+keeps-requires c κs = (found-inside (c .before .before .before .before .before .before .before .before), c .before .before .before .before .before .before .before .before .pre .1 .1)
 
--- src/emit.rt:149:9
+-- src/emit.rt:153:9
 copy-row-requires : tie.Need-copy-row-requires
 copy-row-requires c κs =
-    let a = c .before .before .before .before .before .before .before .before .before .before .before .before .before .args in
-    let p = c .before .before .before .before .before .before .before .before .before .before .before .before .before .pre .1 in
-    let (low, high) = keeping-kind (c .before .before .before .before .before) in
-    omega (arith, p .0 .apart, p .1, keeping (a .node) (a .ids .now) (a .jds .now) (a .env .now) (a .src) (a .dst) (a .behind) (a .k) (a .cells .now) low high .0 (p .0))
+    let a = c .before .before .before .before .before .before .before .before .before .before .before .args in
+    let p = c .before .before .before .before .before .before .before .before .before .before .before .pre .1 in
+    let (low, high) = keeping-kind (c .before .before .before .before) in
+    omega (arith, p .0 .apart, p .1, keeping (a .node) (a .ids .now) (a .jds .now) (a .src) (a .dst) (a .behind) (a .k) (a .cells .now) low high .0 (p .0))
 
--- src/emit.rt:150:9
+-- src/emit.rt:154:9
 same-length-5 : tie.Need-same-length-5
 same-length-5 c = search needs
 
--- src/emit.rt:150:9
+-- src/emit.rt:154:9
 returns-5 : tie.Need-returns-5
 returns-5 c =
-    let a = c .before .before .before .before .before .before .before .before .before .before .before .before .before .before .before .before .args in
-    let p = c .before .before .before .before .before .before .before .before .before .before .before .before .before .before .before .before .pre .1 in
-    let (low, high) = keeping-kind (c .before .before .before .before .before .before .before .before) in
-    let g = keeping (a .node) (a .ids .now) (a .jds .now) (a .env .now) (a .src) (a .dst) (a .behind) (a .k) (a .cells .now) low high in
-    let down = g .0 (p .0) in
-    let long : length (drop (a .src) (a .cells .now)) ≡ length (a .cells .now) - a .src = length-drop (a .src) (a .cells .now) in
-    let copied = written-copy (a .cells .now) (c .before .before .copy-row .last .0) (drop (a .src) (a .cells .now)) (a .dst) (length (a .ids .now)) (c .before .before .copy-row .ensures) (omega (arith, down, p .0 .apart, p .1)) (omega (arith, p .0 .apart, p .1)) in
-    g .1 1 (c .before .before .copy-row .last .0) (emitted-one (kept-rows (c .before .before .before .before .before) true (c .before .before .before .before .if5 .taken)) copied (omega (arith, down)))
+    let a = c .before .before .before .before .before .before .before .before .before .before .before .before .before .before .args in
+    let p = c .before .before .before .before .before .before .before .before .before .before .before .before .before .before .pre .1 in
+    let (low, high) = keeping-kind (c .before .before .before .before .before .before .before) in
+    kept-given (a .node) (a .found) (a .ids .now) (a .jds .now) (a .src) (a .dst) (a .behind) (a .k) (a .cells .now) (p .0) low high (c .before .before .copy-row .last .0)
+    (sym (c .before .before .before .before .before .keeps .ensures) ∙ c .before .before .before .before .if5 .taken) (omega (arith, p .1)) (c .before .before .copy-row .ensures)
 
--- src/emit.rt:114:1
+-- src/emit.rt:117:1
 same-length-6 : tie.Need-same-length-6
 same-length-6 c = search needs
 
--- src/emit.rt:114:1
+-- src/emit.rt:117:1
 returns-6 : tie.Need-returns-6
 returns-6 c =
-    let a = c .before .before .before .before .before .before .before .before .before .before .before .before .args in
-    let (low, high) = keeping-kind (c .before .before .before .before) in
-    keeping (a .node) (a .ids .now) (a .jds .now) (a .env .now) (a .src) (a .dst) (a .behind) (a .k) (a .cells .now) low high .1 0 (a .cells .now) (emitted-none (length (a .ids .now)) (a .dst) (a .src + length (a .ids .now)) (kept-rows (c .before) false (c .if5 .left)))
+    let a = c .before .before .before .before .before .before .before .before .before .before .args in
+    let (low, high) = keeping-kind (c .before .before .before) in
+    none-given (a .node) (a .found) (a .ids .now) (a .jds .now) (a .src) (a .dst) (a .behind) (a .k) (a .cells .now) (c .before .before .before .before .before .before .before .before .before .before .pre .1 .0) low high
+    (sym (c .before .keeps .ensures) ∙ c .if5 .left)
 
 pub emit-row-spec : {M : Type 1} → statement M
 emit-row-spec =
@@ -178,16 +156,14 @@ emit-row-spec =
     each-row-requires
     same-length-2
     returns-2
-    gather-row-requires
+    gather-requires
+    write-with-requires
     same-length-3
     returns-3
-    gather-row-requires-2
+    gather-requires-2
+    write-with-requires-2
     same-length-4
     returns-4
-    mul-keeps
-    sub-keeps
-    part-keeps-start
-    part-keeps-end
     keeps-requires
     copy-row-requires
     same-length-5

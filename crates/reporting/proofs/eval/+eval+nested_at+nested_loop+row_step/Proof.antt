@@ -75,6 +75,7 @@ pub +eval+nested-at+nested-loop+row-step-spec : {M : Type 1} → statement M
     NestedLoop.Inv-loop
     NestedLoop.μ-loop
     (NestedLoop.emitted-width-requires t)
+    (NestedLoop.find-requires t)
     (NestedLoop.loop-holds t)
     (NestedLoop.row-step-requires t)
     (NestedLoop.add-out t)
@@ -102,7 +103,6 @@ pub +eval+nested-at+nested-loop+row-step-spec : {M : Type 1} → statement M
     (RowStep.part-eval-end t)
     (RowStep.slice-aggregate-eval t)
     (RowStep.eval-requires t)
-    (RowStep.slice-aggregate-emit-row t)
     (RowStep.emit-row-requires t)
     (RowStep.same-length t)
     (RowStep.returns t)

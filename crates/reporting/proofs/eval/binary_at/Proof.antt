@@ -7,7 +7,7 @@ use Rattle.reporting.proofs.eval.binary_at.Tie as tie
 use Rattle.reporting.proofs.eval.binary_at.Reads as reads
 use Rattle.reporting.proofs.eval.binary_at.Lts as lts
 use Rattle.reporting.proofs.columns.columns_into.Reads as columns-into-reads
-use Rattle.reporting.proofs.eval.plain_loop.Reads as plain-loop-reads
+use Rattle.reporting.proofs.eval.rows_of_each.Reads as rows-of-each-reads
 
 -- src/eval.rt:149:43
 slice-aggregate-columns-into : tie.Need-slice-aggregate-columns-into
@@ -26,37 +26,37 @@ columns-into-requires-2 : tie.Need-columns-into-requires-2
 columns-into-requires-2 c κs = (c .before .before .before .before .before .before .before .before .pre .0 .1, sound-width (c .before .before .before .before .before .before .before .before .pre .0 .1))
 
 -- src/eval.rt:152:37
-sub-plain-loop : tie.Need-sub-plain-loop
-sub-plain-loop c = search needs
+sub-rows-of-each : tie.Need-sub-rows-of-each
+sub-rows-of-each c = search needs
 
 -- src/eval.rt:152:37
-part-plain-loop-start : tie.Need-part-plain-loop-start
-part-plain-loop-start c = search needs
+part-rows-of-each-start : tie.Need-part-rows-of-each-start
+part-rows-of-each-start c = search needs
 
 -- src/eval.rt:152:37
-part-plain-loop-end : tie.Need-part-plain-loop-end
-part-plain-loop-end c = omega (arith, sound-width (c .before .before .before .before .before .before .before .before .before .before .before .before .pre .0 .0), c .before .before .before .before .before .before .columns-into .ensures .0, c .before .before .before .before .before .before .columns-into .kept .1 .1 .1 .0)
+part-rows-of-each-end : tie.Need-part-rows-of-each-end
+part-rows-of-each-end c = omega (arith, sound-width (c .before .before .before .before .before .before .before .before .before .before .before .before .pre .0 .0), c .before .before .before .before .before .before .columns-into .ensures .0, c .before .before .before .before .before .before .columns-into .kept .1 .1 .1 .0)
 
 -- src/eval.rt:152:60
-sub-plain-loop-2 : tie.Need-sub-plain-loop-2
-sub-plain-loop-2 c = search needs
+sub-rows-of-each-2 : tie.Need-sub-rows-of-each-2
+sub-rows-of-each-2 c = search needs
 
 -- src/eval.rt:152:60
-part-plain-loop-start-2 : tie.Need-part-plain-loop-start-2
-part-plain-loop-start-2 c = search needs
+part-rows-of-each-start-2 : tie.Need-part-rows-of-each-start-2
+part-rows-of-each-start-2 c = search needs
 
 -- src/eval.rt:152:60
-part-plain-loop-end-2 : tie.Need-part-plain-loop-end-2
-part-plain-loop-end-2 c = omega (arith, sound-width (c .before .before .before .before .before .before .before .before .before .before .before .before .before .before .pre .0 .1), c .before .before .before .before .before .columns-into2 .ensures .0, c .before .before .before .before .before .columns-into2 .kept .1 .1 .1 .0)
+part-rows-of-each-end-2 : tie.Need-part-rows-of-each-end-2
+part-rows-of-each-end-2 c = omega (arith, sound-width (c .before .before .before .before .before .before .before .before .before .before .before .before .before .before .pre .0 .1), c .before .before .before .before .before .columns-into2 .ensures .0, c .before .before .before .before .before .columns-into2 .kept .1 .1 .1 .0)
 
 -- src/eval.rt:152:5
-plain-loop-requires : tie.Need-plain-loop-requires
-plain-loop-requires c κs =
+rows-of-each-requires : tie.Need-rows-of-each-requires
+rows-of-each-requires c κs =
     let a = c .before .before .before .before .before .before .before .before .before .before .before .before .before .before .before .args in
     let s = c .before .before .before .before .before .before .before .before .before .before .before .before .before .before .before .pre in
     let e = ids-part (c .before .before .before .before .before .before .before .before .before .columns-into .result) (c .before .before .before .before .before .before .before .before .before .columns-into .last .1 .1 .1 .0) (c .before .before .before .before .before .before .before .before .before .columns-into .ensures .1) in
     let f = ids-part (c .before .before .before .before .before .before .columns-into2 .result) (c .before .before .before .before .before .before .columns-into2 .last .1 .1 .1 .0) (c .before .before .before .before .before .before .columns-into2 .ensures .1) in
-    rw (e, f) ((s .0 .2, s .0 .3, sound-width (s .0 .0), sound-width (s .0 .1)), s .1)
+    rw (e, f) ((s .0 .2, s .0 .3), ((sound-width (s .0 .0), sound-width (s .0 .1), s .1 .0 .0, s .1 .0 .1), (s .1 .1, s .1 .0 .2)))
 
 -- src/eval.rt:129:1
 same-length : tie.Need-same-length
@@ -68,7 +68,7 @@ returns c =
     let a = c .before .before .before .before .before .before .before .before .before .before .before .before .before .before .before .before .before .before .args in
     let e = ids-part (c .before .before .before .before .before .before .before .before .before .before .before .before .columns-into .result) (c .before .before .before .before .before .before .before .before .before .before .before .before .columns-into .last .1 .1 .1 .0) (c .before .before .before .before .before .before .before .before .before .before .before .before .columns-into .ensures .1) in
     let f = ids-part (c .before .before .before .before .before .before .before .before .before .columns-into2 .result) (c .before .before .before .before .before .before .before .before .before .columns-into2 .last .1 .1 .1 .0) (c .before .before .before .before .before .before .before .before .before .columns-into2 .ensures .1) in
-    rw (e, f) at (c .before .before .plain-loop .ensures)
+    rw (e, f) at (c .before .before .rows-of-each .ensures)
 
 pub binary-at-spec : {M : Type 1} → statement M
 binary-at-spec =
@@ -78,12 +78,12 @@ binary-at-spec =
     columns-into-requires
     slice-aggregate-columns-into-2
     columns-into-requires-2
-    sub-plain-loop
-    part-plain-loop-start
-    part-plain-loop-end
-    sub-plain-loop-2
-    part-plain-loop-start-2
-    part-plain-loop-end-2
-    plain-loop-requires
+    sub-rows-of-each
+    part-rows-of-each-start
+    part-rows-of-each-end
+    sub-rows-of-each-2
+    part-rows-of-each-start-2
+    part-rows-of-each-end-2
+    rows-of-each-requires
     same-length
     returns)

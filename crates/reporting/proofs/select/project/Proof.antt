@@ -1,87 +1,125 @@
-use mathlib.Core.Path.{_≡_, refl, sym, ap, _∙_}
-use mathlib.Core.List.{map}
-use Prim.Native.Nat.{ℕ, _+_, _-_, _≤_}
+use mathlib.Core.Path.{_≡_, sym, ap, _∙_, subst}
+use mathlib.Core.List.{List}
+use Prim.Native.Nat.{ℕ, _-_}
 use native.Mathlib.Omega.{arith}
-use lib.ListN.{length}
-use Rattle.algebra.specs.Plans.{cut}
-use Rattle.reporting.specs.Rows.{chunk, rowAt, rowsFrom, envOf}
-use Rattle.reporting.proofs.Building.{Building, single, map-single, building-start, building-row, kept-turn, kept-done}
+use lib.ListN.{length, take}
+use lib.Seq.{length-take-le}
+use Rattle.reporting.specs.Positions.{positions, Inside}
+use Rattle.reporting.specs.Rows.{rowsFrom, envOf}
+use Rattle.reporting.specs.Evaluation.{CutsRoom, PicksGiven}
+use Rattle.reporting.proofs.Alike.{positions-inside}
+use Rattle.reporting.proofs.Picks.{cuts-picked}
+use borrow.Author.Needs.{needs}
 use Rattle.reporting.proofs.select.project.Statement.{statement}
 use Rattle.reporting.proofs.select.project.Tie as tie
 
-abbrev Inv-loop : tie.InvT-loop
-Inv-loop cells₀ own m ids list env w n i₀ src₀ dst₀ cells i src dst = Building (single (cut list ids (envOf env))) (map (cut list ids (envOf env)) (rowsFrom own m (length ids) cells₀)) 1 m (length ids) (length list) own cells i i src dst × (length cells ≡ length cells₀)
-
-abbrev μ-loop : tie.MeasureT-loop
-μ-loop cells₀ own m ids list env w n i₀ src₀ dst₀ cells i src dst = m - i
-
--- the row at hand lies within the cells, and its cut ends before it begins
-in-row : (c : tie.In-loop Inv-loop μ-loop) → let a = c .before .before .before .before .before .before .args in let l = c .before .loop in (l .src + length (a .ids .now) ≤ length (l .cells)) × (l .dst + length (a .list .now) ≤ l .src)
-in-row c =
-    let p = c .before .loop .inv .0 in
-    let r = c .before .before .before .before .before .before .pre .1 in
-    omega (arith, building-row p (c .loop-test .taken), p .src-at, p .dst-at, r .below (c .before .loop .i) (c .loop-test .taken), r .inside, c .before .loop .inv .1)
-
--- src/select.rt:75:5
-loop-holds : tie.Need-loop-holds Inv-loop μ-loop
-loop-holds c =
-    let a = c .before .before .before .before .args in
-    (building-start (a .cells .now) (sym (map-single (cut (a .list .now) (a .ids .now) (envOf (a .env .now))) (rowsFrom (a .own) (a .m) (length (a .ids .now)) (a .cells .now)))), refl)
-
--- src/select.rt:76:9
-cut-row-requires : tie.Need-cut-row-requires Inv-loop μ-loop
-cut-row-requires c κs = let (inside, below) = in-row (c .before) in (c .before .before .before .before .before .before .before .pre .0, below, inside)
-
--- src/select.rt:77:9
-add-i : tie.Need-add-i Inv-loop μ-loop
-add-i c = omega arith
-
--- src/select.rt:78:9
-add-src : tie.Need-add-src Inv-loop μ-loop
-add-src c = omega (arith, in-row (c .before .before .before .before))
-
--- src/select.rt:79:9
-add-dst : tie.Need-add-dst Inv-loop μ-loop
-add-dst c = omega (arith, in-row (c .before .before .before .before))
-
--- src/select.rt:75:5
-loop-less : tie.Need-loop-less Inv-loop μ-loop
-loop-less c = omega arith
-
--- src/select.rt:75:5
-loop-again : tie.Need-loop-again Inv-loop μ-loop
-loop-again c =
+-- the places are those of all ids
+placed : (c : tie.Else3) → let a = c .before .before .before .before .before .before .before .before .before .before .args in
+    (take (length (a .list .now) - 0) (c .before .before .positions-of .last .1 .1 .0) ≡ positions (a .list .now) (a .ids .now)) × (length (positions (a .list .now) (a .ids .now)) ≡ length (a .list .now))
+placed c =
     let a = c .before .before .before .before .before .before .before .before .before .before .args in
-    let l = c .before .before .before .before .before .loop in
-    let r = in-row (c .before .before .before .before) in
-    let w = length (a .ids .now) in
-    (kept-turn (l .inv .0) (c .before .before .before .before .loop-test .taken) (cut (a .list .now) (a .ids .now) (envOf (a .env .now)) (rowAt (l .src) w (l .cells))) (c .before .before .cut-row .last .0) (l .i + 1) (l .dst + length (a .list .now)) refl (c .before .before .cut-row .ensures) (omega arith) refl refl, c .before .before .cut-row .kept .0 ∙ l .inv .1)
+    let p = c .before .before .positions-of in
+    let n : ℕ = length (a .list .now) in
+    let all : n - 0 ≡ p .result = omega (arith, p .ensures .1, c .if3 .left) in
+    let same : take (n - 0) (p .last .1 .1 .0) ≡ positions (a .list .now) (a .ids .now) = ap (λ (k : ℕ). take k (p .last .1 .1 .0)) all ∙ p .ensures .0 in
+    let long : length (take (n - 0) (p .last .1 .1 .0)) ≡ n - 0 = length-take-le (n - 0) (p .last .1 .1 .0) (omega (arith, p .kept .1 .1 .0, c .before .before .before .before .before .if1 .left)) in
+    (same, omega (arith, ap length same))
 
--- src/select.rt:59:1
-same-length : tie.Need-same-length Inv-loop μ-loop
-same-length c = c .before .loop .inv .1
+-- src/select.rt:135:9
+cut-rows-requires : tie.Need-cut-rows-requires
+cut-rows-requires c κs = search needs
 
--- src/select.rt:59:1
-returns : tie.Need-returns Inv-loop μ-loop
-returns c =
-    let a = c .before .before .before .before .before .before .args in
-    let l = c .before .loop in
-    let e : a .m ≡ l .i = omega (arith, l .inv .0 .within) in
-    let g = kept-done (l .inv .0) (c .loop-test .left) in
-    record { is = ap (λ (n : ℕ). chunk n (length (a .list .now)) (l .cells)) e ∙ g .is; few = omega arith }
+-- src/select.rt:135:9
+same-length : tie.Need-same-length
+same-length c = search needs
+
+-- src/select.rt:135:9
+returns : tie.Need-returns
+returns c = search needs
+
+-- src/select.rt:138:9
+cut-rows-requires-2 : tie.Need-cut-rows-requires-2
+cut-rows-requires-2 c κs = search needs
+
+-- src/select.rt:138:9
+same-length-2 : tie.Need-same-length-2
+same-length-2 c = search needs
+
+-- src/select.rt:138:9
+returns-2 : tie.Need-returns-2
+returns-2 c = search needs
+
+-- src/select.rt:141:41
+slice-aggregate-positions-of : tie.Need-slice-aggregate-positions-of
+slice-aggregate-positions-of c = search needs
+
+-- src/select.rt:141:9
+positions-of-requires : tie.Need-positions-of-requires
+positions-of-requires c κs = search needs
+
+-- src/select.rt:143:9
+cut-rows-requires-3 : tie.Need-cut-rows-requires-3
+cut-rows-requires-3 c κs = search needs
+
+-- src/select.rt:143:9
+same-length-3 : tie.Need-same-length-3
+same-length-3 c = search needs
+
+-- src/select.rt:143:9
+returns-3 : tie.Need-returns-3
+returns-3 c = search needs
+
+-- src/select.rt:145:43
+sub-cut-rows-at : tie.Need-sub-cut-rows-at
+sub-cut-rows-at c = search needs
+
+-- src/select.rt:145:43
+part-cut-rows-at-start : tie.Need-part-cut-rows-at-start
+part-cut-rows-at-start c = search needs
+
+-- src/select.rt:145:43
+part-cut-rows-at-end : tie.Need-part-cut-rows-at-end
+part-cut-rows-at-end c = search needs
+
+-- src/select.rt:145:5
+cut-rows-at-requires : tie.Need-cut-rows-at-requires
+cut-rows-at-requires c κs =
+    let a = c .before .before .before .before .before .before .before .before .before .before .before .before .before .args in
+    let (same, all) = placed (c .before .before .before) in
+    subst (λ (x : List ℕ). Inside x (length (a .ids .now)) × CutsRoom (length (a .ids .now)) (length x) (a .own) (a .m) (length (a .cells .now))) (sym same)
+    (positions-inside (a .list .now) (a .ids .now), subst (λ (n : ℕ). CutsRoom (length (a .ids .now)) n (a .own) (a .m) (length (a .cells .now))) (sym all) (c .before .before .before .before .before .before .before .before .before .before .before .before .before .pre .1))
+
+-- src/select.rt:122:1
+same-length-4 : tie.Need-same-length-4
+same-length-4 c = search needs
+
+-- src/select.rt:122:1
+returns-4 : tie.Need-returns-4
+returns-4 c =
+    let a = c .before .before .before .before .before .before .before .before .before .before .before .before .before .before .before .before .args in
+    let s = c .before .before .cut-rows-at in
+    let (same, all) = placed (c .before .before .before .before .before .before) in
+    let g : PicksGiven (positions (a .list .now) (a .ids .now)) (length (a .ids .now)) (a .own) (a .m) (a .cells .now) (s .result) (s .last .0) = subst (λ (x : List ℕ). PicksGiven x (length (a .ids .now)) (a .own) (a .m) (a .cells .now) (s .result) (s .last .0)) same (s .ensures) in
+    rw (cuts-picked (a .list .now) (a .ids .now) (envOf (a .env .now)) (rowsFrom (a .own) (a .m) (length (a .ids .now)) (a .cells .now)) all, ← all) g
 
 pub project-spec : {M : Type 1} → statement M
 project-spec =
     tie.close
     (tie.spec
-    Inv-loop
-    μ-loop
-    loop-holds
-    cut-row-requires
-    add-i
-    add-src
-    add-dst
-    loop-less
-    loop-again
+    cut-rows-requires
     same-length
-    returns)
+    returns
+    cut-rows-requires-2
+    same-length-2
+    returns-2
+    slice-aggregate-positions-of
+    positions-of-requires
+    cut-rows-requires-3
+    same-length-3
+    returns-3
+    sub-cut-rows-at
+    part-cut-rows-at-start
+    part-cut-rows-at-end
+    cut-rows-at-requires
+    same-length-4
+    returns-4)

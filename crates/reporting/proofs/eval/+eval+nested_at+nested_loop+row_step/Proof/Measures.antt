@@ -31,6 +31,7 @@ use Rattle.reporting.proofs.eval.emitted_width.Reads as emitted-width-r
 use Rattle.reporting.proofs.nesting.runs_once.Reads as runs-once-reads
 use Rattle.reporting.proofs.eval.unary_at.Reads as unary-at-reads
 use Rattle.reporting.proofs.leaf.leaf.Reads as leaf-reads
+use Rattle.reporting.proofs.side.find.Reads as find-reads
 
 abbrev pub μ-eval : Measures 4 eval-kinds.ps ℕ
 μ-eval κs a = 4 * size (planAt (a .1 .0 .now) (a .1 .1 .0))
@@ -79,7 +80,7 @@ abbrev pub nested-at-calls : ℕ → nested-at-lts.Claims
 nested-at-calls t = (columns-into-reads.Asked, columns-into-reads.Learnt, nested-loop-below t, nested-loop.Post)
 
 abbrev pub nested-loop-calls : ℕ → nested-loop-lts.Claims
-nested-loop-calls t = (emitted-width-reads.Asked, emitted-width-reads.Learnt, row-step-below t, row-step.Post)
+nested-loop-calls t = (emitted-width-reads.Asked, emitted-width-reads.Learnt, find-reads.Asked, find-reads.Learnt, row-step-below t, row-step.Post)
 
 abbrev pub row-step-calls : ℕ → row-step-lts.Claims
 row-step-calls t = (inner-env-reads.Asked, inner-env-reads.Learnt, eval-below t, eval.Post, emit-row-reads.Asked, emit-row-reads.Learnt)

@@ -30,19 +30,20 @@ use Rattle.reporting.proofs.eval.emitted_width.Reads as emitted-width-r
 use Rattle.reporting.proofs.nesting.runs_once.Reads as runs-once-reads
 use Rattle.reporting.proofs.eval.unary_at.Reads as unary-at-reads
 use Rattle.reporting.proofs.leaf.leaf.Reads as leaf-reads
+use Rattle.reporting.proofs.side.find.Reads as find-reads
 use Rattle.reporting.proofs.eval.+eval+nested_at+nested_loop+row_step.Proof.Measures.{nested-loop-at, nested-loop-calls}
 
 abbrev pub Inv-loop : nested-loop-lts.InvT-loop
-Inv-loop set plan inner node cells₀ own m ids behind jds env w wo i₀ out₀ src₀ dst₀ cells i out src dst = Building (nestedRow (tablesOf set) (operatorOf node) ids (planAt plan inner) (envOf env)) (flatMap (nestedRow (tablesOf set) (operatorOf node) ids (planAt plan inner) (envOf env)) (rowsFrom own m (length ids) cells₀)) (emittedMost (operatorOf node) (boundAt set plan inner)) m (length ids) (length (emittedColumns (operatorOf node) ids (columnsAt set plan inner))) own cells i out src dst × (length cells ≡ length cells₀)
+Inv-loop set plan inner node cells₀ own m ids behind jds env w wo found i₀ out₀ src₀ dst₀ cells i out src dst = Building (nestedRow (tablesOf set) (operatorOf node) ids (planAt plan inner) (envOf env)) (flatMap (nestedRow (tablesOf set) (operatorOf node) ids (planAt plan inner) (envOf env)) (rowsFrom own m (length ids) cells₀)) (emittedMost (operatorOf node) (boundAt set plan inner)) m (length ids) (length (emittedColumns (operatorOf node) ids (columnsAt set plan inner))) own cells i out src dst × (length cells ≡ length cells₀)
 
 abbrev pub μ-loop : nested-loop-lts.MeasureT-loop
-μ-loop set plan inner node cells₀ own m ids behind jds env w wo i₀ out₀ src₀ dst₀ cells i out src dst = m - i
+μ-loop set plan inner node cells₀ own m ids behind jds env w wo found i₀ out₀ src₀ dst₀ cells i out src dst = m - i
 
 -- the row at hand has room for what it gives, and no more rows come than the bound has
-in-row : (t : ℕ) (c : nested-loop-lts.In-loop (nested-loop-calls t) (nested-loop-at t) nested-loop.Post Inv-loop μ-loop) → let a = c .before .before .before .before .before .before .before .before .before .args in let l = c .before .loop in let op = operatorOf (a .node) in let k = boundAt (a .set .now) (a .plan .now) (a .inner) in StepRoom op (a .ids .now) (columnsAt (a .set .now) (a .plan .now) (a .inner)) k (l .src) (l .dst) (a .behind) × (l .out + emittedMost op k ≤ 4096)
+in-row : (t : ℕ) (c : nested-loop-lts.In-loop (nested-loop-calls t) (nested-loop-at t) nested-loop.Post Inv-loop μ-loop) → let a = c .before .before .before .before .before .before .before .before .before .before .args in let l = c .before .loop in let op = operatorOf (a .node) in let k = boundAt (a .set .now) (a .plan .now) (a .inner) in StepRoom op (a .ids .now) (columnsAt (a .set .now) (a .plan .now) (a .inner)) k (l .src) (l .dst) (a .behind) × (l .out + emittedMost op k ≤ 4096)
 in-row t c =
-    let a = c .before .before .before .before .before .before .before .before .before .args in
-    let s = c .before .before .before .before .before .before .before .before .before .pre .1 in
+    let a = c .before .before .before .before .before .before .before .before .before .before .args in
+    let s = c .before .before .before .before .before .before .before .before .before .before .pre .1 in
     let l = c .before .loop in
     let op = operatorOf (a .node) in
     let k = boundAt (a .set .now) (a .plan .now) (a .inner) in
@@ -58,10 +59,10 @@ wide : (t : ℕ) (c : nested-loop-lts.After-emitted-width (nested-loop-calls t) 
 wide t c = let a = c .before .before .before .before .before .before .before .args in c .emitted-width .ensures ∙ ap (λ (ds : List ℕ). length (emittedColumns (operatorOf (a .node)) (a .ids .now) ds)) (c .before .before .before .before .before .before .before .pre .1 .0 .1)
 
 -- the next place is no higher than the row's end
-grows : (t : ℕ) (c : nested-loop-lts.After-row-step (nested-loop-calls t) (nested-loop-at t) nested-loop.Post Inv-loop μ-loop) → c .before .before .before .loop .dst + c .row-step .result * c .before .before .before .before .emitted-width .result ≤ c .before .before .before .before .before .before .before .before .before .before .before .args .behind
+grows : (t : ℕ) (c : nested-loop-lts.After-row-step (nested-loop-calls t) (nested-loop-at t) nested-loop.Post Inv-loop μ-loop) → c .before .before .before .loop .dst + c .row-step .result * c .before .before .before .before .before .emitted-width .result ≤ c .before .before .before .before .before .before .before .before .before .before .before .before .args .behind
 grows t c =
-    let a = c .before .before .before .before .before .before .before .before .before .before .before .args in
-    let s = c .before .before .before .before .before .before .before .before .before .before .before .pre .1 in
+    let a = c .before .before .before .before .before .before .before .before .before .before .before .before .args in
+    let s = c .before .before .before .before .before .before .before .before .before .before .before .before .pre .1 in
     let l = c .before .before .before .loop in
     let op = operatorOf (a .node) in
     let k = boundAt (a .set .now) (a .plan .now) (a .inner) in
@@ -69,23 +70,27 @@ grows t c =
     let room = rw (s .0 .1) at (s .1 .1 .0) in
     let r = c .row-step in
     let ends = turn-ends (l .inv .0) (c .before .before .loop-test .taken) op (λ e. keeps-rows op (s .0 .0) e (a .ids .now) ds k) (room .share) (r .result) (r .ensures .gives .few) in
-    omega (arith, ends, in-row t (c .before .before) .0 .apart, ap (λ (x : ℕ). r .result * x) (wide t (c .before .before .before .before)))
+    omega (arith, ends, in-row t (c .before .before) .0 .apart, ap (λ (x : ℕ). r .result * x) (wide t (c .before .before .before .before .before)))
 
 -- src/eval.rt:206:9
 pub emitted-width-requires : (t : ℕ) → nested-loop-lts.Need-emitted-width-requires (nested-loop-calls t) (nested-loop-at t) nested-loop.Post Inv-loop μ-loop
 emitted-width-requires t c κs = let s = c .before .before .before .before .before .before .pre .1 in (s .0 .0, s .0 .2, omega (arith, ap length (s .0 .1), sound-width (s .1 .1 .1 .sound)))
 
 -- src/eval.rt:211:5
+pub find-requires : (t : ℕ) → nested-loop-lts.Need-find-requires (nested-loop-calls t) (nested-loop-at t) nested-loop.Post Inv-loop μ-loop
+find-requires t c κs = c .before .before .before .before .before .before .before .pre .1 .1 .1 .1 .bound
+
+-- src/eval.rt:211:5
 pub loop-holds : (t : ℕ) → nested-loop-lts.Need-loop-holds (nested-loop-calls t) (nested-loop-at t) nested-loop.Post Inv-loop μ-loop
-loop-holds t c = (building-start (c .before .before .before .before .before .before .before .args .cells .now) refl, refl)
+loop-holds t c = (building-start (c .before .before .before .before .before .before .before .before .args .cells .now) refl, refl)
 
 -- src/eval.rt:212:13
 pub row-step-requires : (t : ℕ) → nested-loop-lts.Need-row-step-requires (nested-loop-calls t) (nested-loop-at t) nested-loop.Post Inv-loop μ-loop
 row-step-requires t c κs =
-    let s = c .before .before .before .before .before .before .before .before .before .before .pre .1 in
+    let s = c .before .before .before .before .before .before .before .before .before .before .before .pre .1 in
     let r = s .1 .1 .1 in
     let l = c .before .before .loop in
-    (omega (arith, c .before .before .before .before .before .before .before .before .before .before .pre .0), ((s .0 .0, s .0 .1, omega (arith, l .inv .1, s .0 .3)), (rw (s .0 .1) (in-row t (c .before) .0), record { sound = r .sound; room = rw (l .inv .1) (r .room); bound = r .bound })))
+    (omega (arith, c .before .before .before .before .before .before .before .before .before .before .before .pre .0), (c .before .before .before .find .ensures, ((s .0 .0, s .0 .1, omega (arith, l .inv .1, s .0 .3)), (rw (s .0 .1) (in-row t (c .before) .0), record { sound = r .sound; room = rw (l .inv .1) (r .room); bound = r .bound }))))
 
 -- src/eval.rt:225:9
 pub add-out : (t : ℕ) → nested-loop-lts.Need-add-out (nested-loop-calls t) (nested-loop-at t) nested-loop.Post Inv-loop μ-loop
@@ -93,19 +98,19 @@ add-out t c = omega (arith, in-row t (c .before .before .before .before) .1, c .
 
 -- src/eval.rt:226:16
 pub mul-dst : (t : ℕ) → nested-loop-lts.Need-mul-dst (nested-loop-calls t) (nested-loop-at t) nested-loop.Post Inv-loop μ-loop
-mul-dst t c = omega (arith, grows t (c .before .before), c .before .before .before .before .before .before .before .before .before .before .before .before .before .fits .behind)
+mul-dst t c = omega (arith, grows t (c .before .before), c .before .before .before .before .before .before .before .before .before .before .before .before .before .before .fits .behind)
 
 -- src/eval.rt:226:9
 pub add-dst : (t : ℕ) → nested-loop-lts.Need-add-dst (nested-loop-calls t) (nested-loop-at t) nested-loop.Post Inv-loop μ-loop
-add-dst t c = omega (arith, grows t (c .before .before), c .before .before .before .before .before .before .before .before .before .before .before .before .before .fits .behind)
+add-dst t c = omega (arith, grows t (c .before .before), c .before .before .before .before .before .before .before .before .before .before .before .before .before .before .fits .behind)
 
 -- src/eval.rt:227:9
 pub add-i : (t : ℕ) → nested-loop-lts.Need-add-i (nested-loop-calls t) (nested-loop-at t) nested-loop.Post Inv-loop μ-loop
-add-i t c = omega (arith, c .before .before .before .before .loop-test .taken, c .before .before .before .before .before .before .before .before .before .before .before .before .before .fits .m)
+add-i t c = omega (arith, c .before .before .before .before .loop-test .taken, c .before .before .before .before .before .before .before .before .before .before .before .before .before .before .fits .m)
 
 -- src/eval.rt:228:9
 pub add-src : (t : ℕ) → nested-loop-lts.Need-add-src (nested-loop-calls t) (nested-loop-at t) nested-loop.Post Inv-loop μ-loop
-add-src t c = omega (arith, in-row t (c .before .before .before .before) .0 .apart, c .before .before .before .before .before .before .before .before .before .before .before .before .before .fits .behind)
+add-src t c = omega (arith, in-row t (c .before .before .before .before) .0 .apart, c .before .before .before .before .before .before .before .before .before .before .before .before .before .before .fits .behind)
 
 -- src/eval.rt:211:5
 pub loop-less : (t : ℕ) → nested-loop-lts.Need-loop-less (nested-loop-calls t) (nested-loop-at t) nested-loop.Post Inv-loop μ-loop
@@ -114,14 +119,14 @@ loop-less t c = omega (arith, c .before .before .before .before .loop-test .take
 -- src/eval.rt:211:5
 pub loop-again : (t : ℕ) → nested-loop-lts.Need-loop-again (nested-loop-calls t) (nested-loop-at t) nested-loop.Post Inv-loop μ-loop
 loop-again t c =
-    let a = c .before .before .before .before .before .before .before .before .before .before .before .before .before .args in
+    let a = c .before .before .before .before .before .before .before .before .before .before .before .before .before .before .args in
     let l = c .before .before .before .before .before .loop in
     let w = length (a .ids .now) in
     let s = c .before .before .row-step in
-    let last : List ℕ = s .last .1 .1 .1 .1 .0 in
+    let last : List ℕ = s .last .1 .1 .1 .1 .1 .0 in
     let h = c .before .before .before .before .loop-test .taken in
-    let left = rows-left (a .m) w (a .own) (l .i) (l .src) (a .behind) last (l .cells) h (l .inv .0 .src-at) (c .before .before .before .before .before .before .before .before .before .before .before .before .before .pre .1 .1 .1 .0 .apart) (s .ensures .between) in
-    (building-turn (l .inv .0) last (s .result) _ _ h (s .ensures .gives) (s .ensures .before) left refl (ap (λ (x : ℕ). l .dst + s .result * x) (wide t (c .before .before .before .before .before .before))), s .kept .1 .1 .1 .1 .0 ∙ l .inv .1)
+    let left = rows-left (a .m) w (a .own) (l .i) (l .src) (a .behind) last (l .cells) h (l .inv .0 .src-at) (c .before .before .before .before .before .before .before .before .before .before .before .before .before .before .pre .1 .1 .1 .0 .apart) (s .ensures .between) in
+    (building-turn (l .inv .0) last (s .result) _ _ h (s .ensures .gives) (s .ensures .before) left refl (ap (λ (x : ℕ). l .dst + s .result * x) (wide t (c .before .before .before .before .before .before .before))), s .kept .1 .1 .1 .1 .1 .0 ∙ l .inv .1)
 
 -- src/eval.rt:185:1
 pub same-length : (t : ℕ) → nested-loop-lts.Need-same-length (nested-loop-calls t) (nested-loop-at t) nested-loop.Post Inv-loop μ-loop
