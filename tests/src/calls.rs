@@ -35,6 +35,34 @@ pub fn read(set: &[u8], plan: &[u8]) -> Result<(Vec<Table>, Plan), u8> {
     Ok((tables, tree))
 }
 
+impl Report {
+    /// The report within these rooms, of a plan with this need: 16 is tested before 15.
+    pub fn within(&self, need: u64, out_cells: usize, scratch_cells: usize) -> Result<&Report, u8> {
+        match self.codes.len() {
+            _ if (scratch_cells as u64) < need => Err(16),
+            cells if out_cells < cells => Err(15),
+            _ => Ok(self),
+        }
+    }
+}
+
+impl Unnested {
+    /// The steps and the plan left within these rooms, where this is the largest need of the plans passed through: 16 is tested before 15.
+    pub fn within(
+        &self,
+        need: u64,
+        out_plan_bytes: usize,
+        out_step_bytes: usize,
+        scratch_cells: usize,
+    ) -> Result<&Unnested, u8> {
+        match (self.plan.len(), 2 * self.steps.len()) {
+            _ if (scratch_cells as u64) < need => Err(16),
+            (plan, steps) if out_plan_bytes < plan || out_step_bytes < steps => Err(15),
+            _ => Ok(self),
+        }
+    }
+}
+
 /// The report of a tree over its tables, without any limit of room.
 pub fn report_of(tree: &Plan, tables: &[Table]) -> Report {
     let rows = rows(tree, tables, None);
@@ -44,14 +72,7 @@ pub fn report_of(tree: &Plan, tables: &[Table]) -> Report {
 /// The reporting call: refusals 1 to 14, then 16, then 15, or the report.
 pub fn report(set: &[u8], plan: &[u8], out_cells: usize, scratch_cells: usize) -> Result<Report, u8> {
     let (tables, tree) = read(set, plan)?;
-    if (scratch_cells as u64) < need(&tree, &tables) {
-        return Err(16);
-    }
-    let report = report_of(&tree, &tables);
-    if out_cells < report.codes.len() {
-        return Err(15);
-    }
-    Ok(report)
+    report_of(&tree, &tables).within(need(&tree, &tables), out_cells, scratch_cells).cloned()
 }
 
 /// The ids, in order, of a report's columns.
@@ -78,11 +99,21 @@ pub fn unnest_tree(tree: &Plan, tables: &[Table]) -> (Vec<(u8, u8)>, Vec<Plan>) 
     (steps, passed)
 }
 
+/// The steps and the plan left of an unnesting that passed through these plans.
+pub fn unnested_of(steps: Vec<(u8, u8)>, passed: &[Plan]) -> Unnested {
+    Unnested { steps, plan: write_plan(&passed[passed.len() - 1]) }
+}
+
+/// The largest need of plans, of which there is at least one.
+pub fn largest_need(plans: &[Plan], tables: &[Table]) -> u64 {
+    plans.iter().map(|plan| need(plan, tables)).max().expect("a plan")
+}
+
 /// The largest need of the plans that unnesting passes through.
 pub fn unnest_need(set: &[u8], plan: &[u8]) -> Result<u64, u8> {
     let (tables, tree) = read(set, plan)?;
     let (_, passed) = unnest_tree(&tree, &tables);
-    Ok(passed.iter().map(|plan| need(plan, &tables)).max().expect("the given plan"))
+    Ok(largest_need(&passed, &tables))
 }
 
 /// The unnesting call: refusals 1 to 14, then 16 (the largest need of any plan passed through),
@@ -96,14 +127,8 @@ pub fn unnest(
 ) -> Result<Unnested, u8> {
     let (tables, tree) = read(set, plan)?;
     let (steps, passed) = unnest_tree(&tree, &tables);
-    if passed.iter().any(|plan| (scratch_cells as u64) < need(plan, &tables)) {
-        return Err(16);
-    }
-    let plan = write_plan(&passed[passed.len() - 1]);
-    if out_plan_bytes < plan.len() || out_step_bytes < 2 * steps.len() {
-        return Err(15);
-    }
-    Ok(Unnested { steps, plan })
+    let need = largest_need(&passed, &tables);
+    unnested_of(steps, &passed).within(need, out_plan_bytes, out_step_bytes, scratch_cells).cloned()
 }
 
 /// The stay note call: refusals 1 to 14 and 16, or the position that the note for this place gives
@@ -126,18 +151,18 @@ pub fn try_steps(set: &[u8], plan: &[u8], steps: &[(u8, u8)]) -> Result<Vec<u8>,
 }
 
 /// What C gets from the reporting call.
-pub fn report_word(answer: &Result<Report, u8>) -> u64 {
+pub fn report_word(answer: Result<&Report, u8>) -> u64 {
     match answer {
         Ok(report) => ((report.columns as u64) << 8) + ((report.rows as u64) << 16),
-        Err(number) => u64::from(*number),
+        Err(number) => u64::from(number),
     }
 }
 
 /// What C gets from the unnesting call.
-pub fn unnest_word(answer: &Result<Unnested, u8>) -> u64 {
+pub fn unnest_word(answer: Result<&Unnested, u8>) -> u64 {
     match answer {
         Ok(unnested) => ((unnested.steps.len() as u64) << 8) + ((unnested.plan.len() as u64) << 24),
-        Err(number) => u64::from(*number),
+        Err(number) => u64::from(number),
     }
 }
 

@@ -4,8 +4,10 @@ use crate::build::*;
 use crate::cells::{BLANK, LARGEST, OFF_SCALE};
 use crate::generate::Input;
 use crate::in_place;
+use crate::keys::{in_bucket_of, rows_in_one_bucket};
 use crate::plan::Comparison::{AtLeast, AtMost, Equal, Greater, Less, NotEqual};
 use crate::plan::{Aggregate, Plan, Test, ALWAYS, COMPARISONS};
+use crate::random::Random;
 use crate::tables::Table;
 
 /// The paper's listing: tables, and the plan of Every over Distinct and Select.
@@ -118,6 +120,8 @@ fn limits() -> Vec<(&'static str, Input)> {
     all.extend(projects_between_and_more());
     all.extend(no_fit_through_a_project());
     all.extend(projects_of_other_rules());
+    all.extend(keys_of_many_rows());
+    all.extend(inner_plans_of_many_rows());
     all
 }
 
@@ -436,6 +440,86 @@ fn projects_of_other_rules() -> Vec<(&'static str, Input)> {
         ("a Pair with a Select below a Project", pair(Aggregate::Least(2), 9, keys(0, AtMost, 1), of_table(2), cut())),
         ("an Each with a Project", each(scan(0, 0), cut())),
         ("an Each with a linked Select below a Project", each(scan(0, 0), linked)),
+    ])
+}
+
+/// Tables of 34 rows, of 40 and of 3: a key, a cell and the row's number. Keys are equal, blank, off scale, at the ends of the range, and
+/// different ones in the bucket of blank.
+fn tables_of_many_rows() -> Vec<Table> {
+    let in_one_bucket = in_bucket_of(&mut Random::new(40), BLANK, 4);
+    let keys = [&in_one_bucket[..], &[BLANK, 7, OFF_SCALE, 7, LARGEST, -LARGEST, 8]].concat();
+    let keyed = |height: usize, step: usize| {
+        let cell = |row: usize| [5, -3, BLANK, 12, 5, 0, 4][row % 7];
+        let row = |row: usize| vec![keys[(row * step + row / 11) % keys.len()], cell(row), row as i32];
+        Table { columns: 3, rows: (0..height).map(row).collect() }
+    };
+    vec![keyed(34, 3), keyed(40, 5), keyed(3, 1)]
+}
+
+/// A table of 36 rows that are different in both of two columns, or equal in both, all in one bucket, and of a third column.
+fn rows_of_one_bucket() -> Table {
+    let shared = rows_in_one_bucket(&mut Random::new(41), 6);
+    let row = |row: usize| [&shared[(5 * row + row / 7) % 6][..], &[row as i32 % 2]].concat();
+    Table { columns: 3, rows: (0..36).map(row).collect() }
+}
+
+/// Edges over these tables.
+fn of_many_rows<const COUNT: usize>(plans: [(&'static str, Plan); COUNT]) -> Vec<(&'static str, Input)> {
+    plans.map(|(name, plan)| (name, Input { tables: tables_of_many_rows(), plan })).to_vec()
+}
+
+/// Keys that are looked up in more than 32 rows, and Sorts of as many.
+fn keys_of_many_rows() -> Vec<(&'static str, Input)> {
+    let (left, right) = (|| scan(0, 0), || scan(1, 10));
+    let later = columns_test(2, Less, 12);
+    let paired = |aggregate| pair(aggregate, 20, keys(0, Equal, 10), left(), right());
+    let grouped = |aggregate| group(aggregate, 20, keys(21, Equal, 10), right());
+    let mut all = of_many_rows([
+        ("a Semi with 40 rows", semi(0, 10, number_test(11, Less, 5), left(), right())),
+        ("an Anti with 40 rows", anti(0, 10, later, left(), right())),
+        ("an Anti with 40 rows of few keys", anti(1, 11, ALWAYS, left(), right())),
+        ("a Pair with 40 rows", with_test(paired(Aggregate::Sum(11)), later)),
+        ("the least of 40 rows by a Pair", paired(Aggregate::Least(11))),
+        ("a Group of 40 rows", with_test(grouped(Aggregate::Sum(12)), number_test(11, NotEqual, 5))),
+        ("the greatest of 40 rows by a Group", grouped(Aggregate::Greatest(11))),
+        ("a Group of 40 rows by ≠", group(Aggregate::Count, 20, keys(21, NotEqual, 10), right())),
+        ("a Distinct of 40 rows", distinct(&[11, 10], right())),
+        ("a downward Sort of 34 rows", sort(true, &[0], left())),
+        ("an upward Sort of 40 rows by two columns", sort(false, &[11, 10], right())),
+        ("a downward Sort of 33 rows", sort(true, &[1], select(number_test(2, Less, 33), left()))),
+    ]);
+    let listed = [&[0, 1][..], &[1, 2, 0]].map(|list| distinct(list, scan(0, 0)));
+    let names = ["a Distinct of rows in one bucket", "a Distinct of rows in one bucket by three columns"];
+    let shared = |plan| Input { tables: vec![rows_of_one_bucket()], plan };
+    all.extend(names.into_iter().zip(listed.map(shared)));
+    all
+}
+
+/// Inner plans over as many rows, which name the left row or do not.
+fn inner_plans_of_many_rows() -> Vec<(&'static str, Input)> {
+    let few = |first| project(&[first, first + 1], scan(2, first));
+    let matched = |test| semi(10, 0, test, scan(1, 10), scan(0, 0));
+    let of_matched = |test| group(Aggregate::Count, 20, keys(21, Equal, 11), matched(test));
+    let further_out = fold(Aggregate::Sum(12), 60, ALWAYS, few(40), matched(columns_test(51, Less, 1)));
+    let deep = every(columns_test(41, Less, 21), few(40), of_matched(columns_test(51, Less, 11)));
+    of_many_rows([
+        ("Some over a closed inner plan", some(columns_test(51, Less, 11), few(50), matched(ALWAYS))),
+        ("Every over a closed inner plan without rows", every(NEVER, few(50), matched(NEVER))),
+        (
+            "a Fold over a closed inner plan",
+            fold(Aggregate::Sum(12), 60, columns_test(51, Less, 11), few(50), matched(ALWAYS)),
+        ),
+        ("an Each with a closed inner plan", each(few(50), of_matched(ALWAYS))),
+        ("an Each with a closed inner plan without rows", each(few(50), matched(NEVER))),
+        (
+            "Some over an inner plan whose Semi names the left row",
+            some(ALWAYS, few(50), matched(columns_test(51, Equal, 11))),
+        ),
+        ("an Each with a Fold that names the row further out alone", each(few(50), further_out)),
+        (
+            "a Fold over an inner plan that names the left row in its own inner plan",
+            fold(Aggregate::Count, 61, ALWAYS, few(50), deep),
+        ),
     ])
 }
 

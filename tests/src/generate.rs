@@ -85,8 +85,8 @@ fn random_tree(random: &mut Random, size: usize) -> Tree {
 fn drawn(random: &mut Random) -> Input {
     let (tables, keyed) = related_tables(random);
     let depth = random.between(1, 5);
-    let id_style = random.below(4);
-    let mut maker = Maker { random, tables: &tables, keyed: &keyed, used: [false; 256], id_style };
+    let ids = Ids::new(random);
+    let mut maker = Maker { random, tables: &tables, keyed: &keyed, ids };
     let (mut plan, _) = maker.plan(depth, &[]);
     // Now and then so many nodes that a rule which adds one cannot fit.
     if random.chance(3) {
@@ -203,13 +203,43 @@ fn number(random: &mut Random) -> i32 {
     }
 }
 
+/// The ids that a plan under way has introduced, and which of the others are taken next: the first, the last, or any.
+pub struct Ids {
+    used: [bool; 256],
+    style: usize,
+}
+
+impl Ids {
+    /// None introduced yet.
+    pub fn new(random: &mut Random) -> Ids {
+        Ids { used: [false; 256], style: random.below(4) }
+    }
+
+    /// So many ids in a row that are not yet introduced; none when no run is left.
+    pub fn fresh(&mut self, random: &mut Random, width: usize) -> Option<u8> {
+        let free = |start: usize| (start..start + width).all(|id| !self.used[id]);
+        let starts: Vec<usize> = (0..=256 - width).filter(|&start| free(start)).collect();
+        if starts.is_empty() {
+            return None;
+        }
+        let start = match self.style {
+            0 => starts[0],
+            1 => starts[starts.len() - 1],
+            _ => random.pick(&starts),
+        };
+        for id in start..start + width {
+            self.used[id] = true;
+        }
+        Some(start as u8)
+    }
+}
+
 /// Draws plans whose names are all in view.
 struct Maker<'a> {
     random: &'a mut Random,
     tables: &'a [Table],
     keyed: &'a [KeyColumn],
-    used: [bool; 256],
-    id_style: usize,
+    ids: Ids,
 }
 
 /// A plan with the columns it gives.
@@ -235,20 +265,7 @@ impl Maker<'_> {
 
     /// So many ids in a row that no plan part has yet introduced; none when no run is left.
     fn fresh(&mut self, width: usize) -> Option<u8> {
-        let free = |start: usize| (start..start + width).all(|id| !self.used[id]);
-        let starts: Vec<usize> = (0..=256 - width).filter(|&start| free(start)).collect();
-        if starts.is_empty() {
-            return None;
-        }
-        let start = match self.id_style {
-            0 => starts[0],
-            1 => starts[starts.len() - 1],
-            _ => self.random.pick(&starts),
-        };
-        for id in start..start + width {
-            self.used[id] = true;
-        }
-        Some(start as u8)
+        self.ids.fresh(self.random, width)
     }
 
     /// Scan mostly, else Unit.

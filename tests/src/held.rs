@@ -4,7 +4,6 @@
 
 use crate::archive;
 use crate::between::Met;
-use crate::build::*;
 use crate::calls;
 use crate::cases::{damaged_once, fault_case};
 use crate::cells::{BLANK, OFF_SCALE};
@@ -12,11 +11,10 @@ use crate::check::{need, need_before};
 use crate::damage::{faults, Fault};
 use crate::downward::{decided_by_equal_rows, sorts_with_equal_rows};
 use crate::evaluate::{column_cells, first_occurrences};
-use crate::generate::{
-    accepted, code, common_beginning, downward, in_place, steps, totals, unequal, with_between, Input,
-};
-use crate::plan::Comparison::{Equal, NotEqual};
-use crate::plan::{Aggregate, Form, Plan, Test, COMPARISONS};
+use crate::generate::{accepted, common_beginning, downward, in_place, steps, totals, unequal, with_between, Input};
+use crate::large;
+use crate::plan::Comparison::NotEqual;
+use crate::plan::{Aggregate, Form, Plan, Test};
 use crate::random::Random;
 use crate::rules::{sequences, stay_position};
 use crate::tables::Table;
@@ -47,6 +45,8 @@ pub struct Counts {
     pub decided: [usize; 3],
     /// What stood between nested steps and their Selects, and the steps through a Project.
     pub between: Met,
+    /// What keys were looked up in, Sorts and inner plans.
+    pub large: large::Met,
     /// Accepted inputs whose need is below the one before request K12.
     pub smaller_needs: usize,
     /// Calls of the three that met 16 by the need before request K12 and do not now: those refused 15, and those answered.
@@ -73,6 +73,7 @@ impl Counts {
             + &self.unequal_line()
             + &self.downward_line()
             + &self.between.lines()
+            + &self.large.lines()
             + &self.need_line()
             + &format!("steps of the unnesting call{}\n", by_rule(&self.rules))
             + &format!("tried steps that fitted{}, that did not {}\n", by_rule(&self.tried), self.tried[0])
@@ -188,17 +189,20 @@ pub fn hold_seeds(seed: u64, count: u64, counts: &mut Counts) -> Result<(), Stri
     Ok(())
 }
 
+/// How many rows, or pairs of rows, the second evaluator may look at for the report of an input with many rows.
+const WORK: u64 = 100_000;
+
 /// A random input: accepted; with one fault or two; or with bytes changed, cut off or put on anywhere.
 fn drawn(random: &mut Random, faults: &[Fault]) -> (Vec<u8>, Vec<u8>) {
     match random.below(100) {
-        0..=46 => bytes_of(&accepted(random)),
-        47..=48 => bytes_of(&in_place(random)),
-        49..=50 => bytes_of(&with_between(random)),
-        51..=52 => bytes_of(&downward(random)),
-        53..=54 => bytes_of(&unequal(random)),
-        55..=56 => bytes_of(&totals(random)),
-        57..=58 => bytes_of(&common_beginning(random)),
-        59 => bytes_of(&large(random)),
+        0..=45 => bytes_of(&accepted(random)),
+        46..=47 => bytes_of(&large::large(random, WORK)),
+        48..=49 => bytes_of(&in_place(random)),
+        50..=51 => bytes_of(&with_between(random)),
+        52..=53 => bytes_of(&downward(random)),
+        54..=55 => bytes_of(&unequal(random)),
+        56..=57 => bytes_of(&totals(random)),
+        58..=59 => bytes_of(&common_beginning(random)),
         60..=73 => {
             let fault = random.below(faults.len());
             let case = fault_case(random, &faults[fault]);
@@ -242,37 +246,6 @@ fn mangled(random: &mut Random) -> (Vec<u8>, Vec<u8>) {
     (set, plan)
 }
 
-/// One step over tables of some hundred rows, up to the thousand that a table may have.
-fn large(random: &mut Random) -> Input {
-    let height = random.between(200, 1000);
-    let different = random.between(1, height);
-    let table = |random: &mut Random, height: usize| Table {
-        columns: 2,
-        rows: (0..height).map(|_| vec![random.below(different) as i32, code(random)]).collect(),
-    };
-    let tables = vec![table(random, height), table(random, 300)];
-    let comparison = random.pick(&COMPARISONS);
-    let inner = || select(columns_test(0, Equal, 2), scan(1, 2));
-    let plan = match random.below(10) {
-        0 => sort(random.chance(50), &[0, 1], scan(0, 0)),
-        1 => distinct(&[0], scan(0, 0)),
-        2 => group(Aggregate::Sum(1), 9, keys(8, comparison, 0), scan(0, 0)),
-        3 => semi(0, 2, number_test(3, comparison, 2), scan(0, 0), scan(1, 2)),
-        4 => anti(0, 2, number_test(3, comparison, 2), scan(0, 0), scan(1, 2)),
-        5 => pair(Aggregate::Least(3), 9, keys(0, comparison, 2), scan(0, 0), scan(1, 2)),
-        6 => some(number_test(3, comparison, 2), scan(0, 0), inner()),
-        7 => every(number_test(3, comparison, 2), scan(0, 0), inner()),
-        8 => fold(Aggregate::Greatest(3), 9, number_test(3, comparison, 2), scan(0, 0), inner()),
-        _ => select(columns_test(1, comparison, 3), cross(scan(0, 0), project(&[3], group_of_few()))),
-    };
-    Input { tables, plan }
-}
-
-/// A plan of one row with the id 3.
-fn group_of_few() -> Plan {
-    fold(Aggregate::Count, 3, number_test(5, Equal, 1), Plan::Unit, scan(1, 4))
-}
-
 /// Holds all calls on one input against the second evaluator.
 pub fn hold(random: &mut Random, set: &[u8], plan: &[u8], counts: &mut Counts) -> Result<(), String> {
     counts.inputs += 1;
@@ -296,21 +269,48 @@ fn often_below(random: &mut Random, room: usize) -> usize {
     }
 }
 
-/// The reporting call at the edge of both rooms, with one cell of scratch less, and at one pair of rooms around it; and with scratch that was
-/// below the need before request K12 and no longer is.
+/// What the reporting call has to give of an accepted input in rooms that are large enough; its need, and the one before request K12.
+pub struct Due {
+    pub report: calls::Report,
+    need: usize,
+    before: usize,
+}
+
+impl Due {
+    /// What it has to give of this plan.
+    pub fn of(tree: &Plan, tables: &[Table]) -> Due {
+        let (need, before) = (need(tree, tables) as usize, need_before(tree, tables) as usize);
+        assert!(need <= before, "a need of {need} cells that was {before}");
+        Due { report: calls::report_of(tree, tables), need, before }
+    }
+}
+
+/// The reporting call, and what an accepted plan has of the things that are counted.
 pub fn hold_report(random: &mut Random, set: &[u8], plan: &[u8], counts: &mut Counts) -> Result<(), String> {
-    let (cells, need, before) = match calls::read(set, plan) {
-        Ok((tables, tree)) => {
-            let (need, before) = (need(&tree, &tables) as usize, need_before(&tree, &tables) as usize);
-            assert!(need <= before, "a need of {need} cells that was {before}");
-            counts.smaller_needs += usize::from(need < before);
-            let report = calls::report_of(&tree, &tables);
-            counts.count_sums(&tree, &report);
-            counts.count_unequal(&tree, &tables);
-            counts.count_downward(&tree, &tables);
-            counts.between.count(&tree, &tables);
-            (report.codes.len(), need, before)
-        }
+    let due = calls::read(set, plan).map(|(tables, tree)| {
+        let due = Due::of(&tree, &tables);
+        counts.smaller_needs += usize::from(due.need < due.before);
+        counts.count_sums(&tree, &due.report);
+        counts.count_unequal(&tree, &tables);
+        counts.count_downward(&tree, &tables);
+        counts.between.count(&tree, &tables);
+        counts.large.count(&tree, &tables);
+        due
+    });
+    hold_rooms(random, set, plan, &due, counts)
+}
+
+/// The reporting call at the edge of both rooms, with one cell of scratch less, and at one pair of rooms around it; and with scratch that was
+/// below the need before request K12 and no longer is. What is due of the input, or the number that refuses it, is given.
+pub fn hold_rooms(
+    random: &mut Random,
+    set: &[u8],
+    plan: &[u8],
+    due: &Result<Due, u8>,
+    counts: &mut Counts,
+) -> Result<(), String> {
+    let (cells, need, before) = match due {
+        Ok(due) => (due.report.codes.len(), due.need, due.before),
         Err(_) => (random.below(9), random.below(5000), 0),
     };
     let around = match random.below(6) {
@@ -324,12 +324,15 @@ pub fn hold_report(random: &mut Random, set: &[u8], plan: &[u8], counts: &mut Co
     let no_longer_16 = (need < before).then(|| (often_below(random, cells), random.between(need, before - 1)));
     for (out, scratch) in [(cells, need), (cells, below(need)), around].into_iter().chain(no_longer_16) {
         let rooms = format!("report with room {out} and scratch {scratch}");
-        let expected = calls::report(set, plan, out, scratch);
+        let expected = match due {
+            Ok(due) => due.report.within(need as u64, out, scratch),
+            Err(number) => Err(*number),
+        };
         let (word, codes) =
             archive::report(random, set, plan, out, scratch).map_err(|error| format!("{rooms}: {error}"))?;
-        counts.reports[expected.as_ref().err().map_or(0, |&number| usize::from(number))] += 1;
-        counts.count_no_longer_16(0, scratch, before, expected.as_ref().err().copied());
-        let right = calls::report_word(&expected);
+        counts.reports[expected.err().map_or(0, usize::from)] += 1;
+        counts.count_no_longer_16(0, scratch, before, expected.err());
+        let right = calls::report_word(expected);
         if word != right {
             return Err(format!("{rooms}: the word is {word:#x} and not {right:#x}"));
         }
@@ -368,16 +371,13 @@ fn hold_tried_steps(random: &mut Random, set: &[u8], plan: &[u8], counts: &mut C
 /// The unnesting call at the edge of its three rooms, at rooms around it, and with scratch that was below the need before request K12 and no
 /// longer is; and the report of the plan that it leaves.
 pub fn hold_unnest(random: &mut Random, set: &[u8], plan: &[u8], counts: &mut Counts) -> Result<(), String> {
-    let left = calls::unnest(set, plan, calls::ROOMY, calls::ROOMY, calls::ROOMY);
+    let left = calls::read(set, plan).map(|(tables, tree)| {
+        let (steps, passed) = calls::unnest_tree(&tree, &tables);
+        let before = passed.iter().map(|plan| need_before(plan, &tables)).max().expect("the given plan");
+        (calls::unnested_of(steps, &passed), calls::largest_need(&passed, &tables) as usize, before as usize)
+    });
     let (bytes, step_bytes, need, before) = match &left {
-        Ok(left) => {
-            let (tables, tree) = calls::read(set, plan).expect("an accepted plan");
-            let (_, passed) = calls::unnest_tree(&tree, &tables);
-            let largest = |count: fn(&Plan, &[Table]) -> u64| {
-                passed.iter().map(|plan| count(plan, &tables)).max().expect("the given plan") as usize
-            };
-            (left.plan.len(), 2 * left.steps.len(), largest(need), largest(need_before))
-        }
+        Ok((left, need, before)) => (left.plan.len(), 2 * left.steps.len(), *need, *before),
         Err(_) => (random.below(9), random.below(9), random.below(5000), 0),
     };
     let around = match random.below(7) {
@@ -393,12 +393,15 @@ pub fn hold_unnest(random: &mut Random, set: &[u8], plan: &[u8], counts: &mut Co
         .then(|| (often_below(random, bytes), often_below(random, step_bytes), random.between(need, before - 1)));
     for (plan_room, step_room, scratch) in [(bytes, step_bytes, need), around].into_iter().chain(no_longer_16) {
         let rooms = format!("unnest with rooms {plan_room}, {step_room} and scratch {scratch}");
-        let expected = calls::unnest(set, plan, plan_room, step_room, scratch);
+        let expected = match &left {
+            Ok((left, ..)) => left.within(need as u64, plan_room, step_room, scratch),
+            Err(number) => Err(*number),
+        };
         let (word, plan_left, steps) = archive::unnest(random, set, plan, plan_room, step_room, scratch)
             .map_err(|error| format!("{rooms}: {error}"))?;
-        counts.unnestings[expected.as_ref().err().map_or(0, |&number| usize::from(number))] += 1;
-        counts.count_no_longer_16(1, scratch, before, expected.as_ref().err().copied());
-        let right = calls::unnest_word(&expected);
+        counts.unnestings[expected.err().map_or(0, usize::from)] += 1;
+        counts.count_no_longer_16(1, scratch, before, expected.err());
+        let right = calls::unnest_word(expected);
         if word != right {
             return Err(format!("{rooms}: the word is {word:#x} and not {right:#x}"));
         }
@@ -411,7 +414,7 @@ pub fn hold_unnest(random: &mut Random, set: &[u8], plan: &[u8], counts: &mut Co
             return Err(format!("{rooms}: the plan left differs"));
         }
     }
-    let Ok(left) = left else { return Ok(()) };
+    let Ok((left, ..)) = left else { return Ok(()) };
     if archive::report(random, set, plan, 1 << 17, need)? != archive::report(random, set, &left.plan, 1 << 17, need)? {
         return Err(format!("unnesting by {:?} changes the report", left.steps));
     }
@@ -419,7 +422,7 @@ pub fn hold_unnest(random: &mut Random, set: &[u8], plan: &[u8], counts: &mut Co
 }
 
 /// The stay note call at a few places: one where a note is due if there is one, anywhere, and past the last node.
-fn hold_stay_notes(random: &mut Random, set: &[u8], plan: &[u8], counts: &mut Counts) -> Result<(), String> {
+pub fn hold_stay_notes(random: &mut Random, set: &[u8], plan: &[u8], counts: &mut Counts) -> Result<(), String> {
     let read = calls::read(set, plan);
     let (size, due, need, before) = match &read {
         Ok((tables, tree)) => {

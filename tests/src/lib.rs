@@ -22,10 +22,14 @@ pub mod generate;
 #[cfg(archive)]
 pub mod held;
 pub mod in_place;
+pub mod keys;
+pub mod large;
 pub mod listings;
 pub mod nodes;
 pub mod pages;
 pub mod plan;
 pub mod random;
 pub mod rules;
+#[cfg(target_os = "linux")]
+pub mod stack;
 pub mod tables;

@@ -241,11 +241,16 @@ fn names(plan: &Plan) -> Vec<u8> {
     plan.nodes().into_iter().filter_map(Plan::test).flat_map(|test| test.names()).collect()
 }
 
-/// Whether a part of an accepted plan names no column from outside itself. An id is introduced
+/// The columns from outside itself that a part of an accepted plan names. An id is introduced
 /// once in the whole plan, so what is introduced inside is named as such.
-pub fn is_closed(plan: &Plan, tables: &[Table]) -> bool {
+pub fn names_from_outside(plan: &Plan, tables: &[Table]) -> Vec<u8> {
     let own = introduced(plan, tables);
-    names(plan).into_iter().all(|id| own.contains(&usize::from(id)))
+    names(plan).into_iter().filter(|&id| !own.contains(&usize::from(id))).collect()
+}
+
+/// Whether a part of an accepted plan names no column from outside itself.
+pub fn is_closed(plan: &Plan, tables: &[Table]) -> bool {
+    names_from_outside(plan, tables).is_empty()
 }
 
 /// The values of e, which has one column, and the first occurrences of a column of h. Both are closed.

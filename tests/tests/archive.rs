@@ -324,8 +324,8 @@ mod held {
             for (turn, tree) in all.iter().enumerate() {
                 let plan = write_plan(&plan_of(tree, &tables, turn));
                 let need = need_of(&set, &plan).expect("an accepted plan") as usize;
-                let expected = report(&set, &plan, ROOMY, need);
-                let right = (report_word(&expected), expected.expect("a report").codes);
+                let expected = report(&set, &plan, ROOMY, need).expect("a report");
+                let right = (report_word(Ok(&expected)), expected.codes);
                 let given = archive::report(&mut random, &set, &plan, right.1.len(), need);
                 assert_eq!(given, Ok(right), "{tree} over {heights:?} rows");
                 let below = archive::report(&mut random, &set, &plan, 0, need - 1);

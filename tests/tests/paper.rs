@@ -2042,8 +2042,8 @@ fn rooms_of_the_unnesting_call() {
     assert_eq!(unnest(&set, &plan, left.plan.len() - 1, 6, most), Err(15));
     assert_eq!(unnest(&set, &plan, left.plan.len(), 5, most), Err(15));
     assert_eq!(unnest(&set, &plan, 0, 0, most - 1), Err(16));
-    assert_eq!(unnest_word(&Ok(left.clone())), (3 << 8) + ((left.plan.len() as u64) << 24));
-    assert_eq!(unnest_word(&Err(16)), 16);
+    assert_eq!(unnest_word(Ok(&left)), (3 << 8) + ((left.plan.len() as u64) << 24));
+    assert_eq!(unnest_word(Err(16)), 16);
 }
 
 #[test]
@@ -2092,9 +2092,9 @@ fn edges_are_accepted_and_keep_their_reports() {
 
 #[test]
 fn words_for_c() {
-    let answer = report(&club().set_bytes(), &club().plan_bytes(), ROOMY, ROOMY);
-    assert_eq!(report_word(&answer), (1 << 8) + (2 << 16));
-    assert_eq!(report_word(&Err(12)), 12);
+    let answer = report(&club().set_bytes(), &club().plan_bytes(), ROOMY, ROOMY).expect("a report");
+    assert_eq!(report_word(Ok(&answer)), (1 << 8) + (2 << 16));
+    assert_eq!(report_word(Err(12)), 12);
     assert_eq!(stay_note_word(&Ok(Some(0))), 1 << 8);
     assert_eq!(stay_note_word(&Ok(Some(5))), (1 << 8) + (5 << 16));
     assert_eq!(stay_note_word(&Ok(None)), 0);
