@@ -72,10 +72,14 @@ impl Sqlite {
         assert_eq!(status, OK, "{sql}");
     }
 
-    /// Makes a table with the columns k and v out of the first two of another.
-    pub fn fill(&self, name: &str, table: &Table) {
+    /// Makes a table with the columns k and v out of the first two of another, in place of one of that name. It may have an index on k.
+    pub fn fill(&self, name: &str, table: &Table, indexed: bool) {
         let rows: Vec<String> = table.rows.iter().map(|row| format!("({}, {})", row[0], row[1])).collect();
-        self.run(&format!("CREATE TABLE {name} (k INTEGER, v INTEGER); INSERT INTO {name} VALUES {};", rows.join(",")));
+        self.run(&format!("DROP TABLE IF EXISTS {name}; CREATE TABLE {name} (k INTEGER, v INTEGER);"));
+        self.run(&format!("INSERT INTO {name} VALUES {};", rows.join(",")));
+        if indexed {
+            self.run(&format!("CREATE INDEX {name}k ON {name} (k); ANALYZE;"));
+        }
     }
 
     /// A question ready to be asked.
