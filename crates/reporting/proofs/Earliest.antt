@@ -12,8 +12,7 @@ use borrow.Author.Tests.{eqb-true, eq-eqb, ne-eqb}
 use Rattle.algebra.specs.Lists.{filter, any, upward}
 use Rattle.algebra.specs.Plans.{Row}
 use Rattle.reading.proofs.Places.{upward-length}
-use Rattle.reporting.specs.Grouping.{before}
-use Rattle.reporting.specs.Index.{bucketOf, slotOf, nth, chain, Index}
+use Rattle.reporting.specs.Index.{bucketOf, slotOf, nth, before, chain, Index}
 use Rattle.reporting.specs.Rows.{chunk}
 use Rattle.reporting.proofs.Chunks.{length-chunk, chunk-add, next-row}
 use Rattle.reporting.proofs.Numbers.{each-upward, cell-nth}

@@ -16,7 +16,8 @@ use Rattle.algebra.specs.Plans.{Row, Env, bind, emit, act}
 use Rattle.algebra.proofs.Lists.{any-map}
 use Rattle.reading.specs.Tree.{aggregateOf, operatorOf, operatorBy}
 use Rattle.reading.specs.declared.plan.Node.{Node}
-use Rattle.reporting.specs.Grouping.{keyRow, groupedBy, KeyWritten, before}
+use Rattle.reporting.specs.Grouping.{keyRow, groupedBy, KeyWritten}
+use Rattle.reporting.specs.Index.{before}
 use Rattle.reporting.specs.Keys.{hasTest}
 use Rattle.reporting.specs.Rows.{chunk, Gives, acted, gathered, passing, aggregateIn}
 use Rattle.reporting.specs.Sides.{FoundInside, FoundFor, foundCells, foundCell}

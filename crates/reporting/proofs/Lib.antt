@@ -30,4 +30,5 @@ pub mod ListActs
 pub mod Sides
 pub mod Emitting
 pub mod Meets
+pub mod Known
 pub mod Earliest

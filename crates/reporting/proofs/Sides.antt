@@ -173,7 +173,7 @@ equal-places c a n k = places-for c a n k (c .left) (c .right) refl refl
 -- ---- what is found is what the node says
 
 -- an aggregate of cells does not read its column
-aggregate-cells : (code c d : ℕ) (xs : List ℕ) → aggregate (aggregateOf code c) xs ≡ aggregate (aggregateOf code d) xs
+pub aggregate-cells : (code c d : ℕ) (xs : List ℕ) → aggregate (aggregateOf code c) xs ≡ aggregate (aggregateOf code d) xs
 unfolding aggregate
 aggregate-cells code c d xs = go (eqb code 0) refl
   where

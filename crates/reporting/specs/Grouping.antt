@@ -1,6 +1,5 @@
 -- Group by the columns that were found. Private contracts speak of these. Definitions only.
-use Prim.Native.Nat.{ℕ, suc}
-use mathlib.Core.Bool.{Bool, cond}
+use Prim.Native.Nat.{ℕ}
 use mathlib.Core.Path.{_≡_}
 use mathlib.Core.List.{List, [], _∷_, _++_, map}
 use lib.Seq.{paste}
@@ -20,8 +19,3 @@ groupedBy f key rows = flatMap (λ v. keyRow f rows v ∷ []) (firsts (map (λ q
 -- a key and its aggregate stand at dst, and all else is as it was
 abbrev pub KeyWritten : Found → ℕ → ℕ → List Row → List ℕ → List ℕ → Type 0
 KeyWritten f key dst rows entry exit = exit ≡ paste entry dst (keyRow f rows (key ∷ [])) 2
-
--- how many rows come before the first that passes; all of them where none does
-unfoldable pub before : (Row → Bool) → List Row → ℕ
-before p [] = 0
-before p (r ∷ rs) = cond (p r) 0 (suc (before p rs))

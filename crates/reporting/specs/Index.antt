@@ -1,6 +1,7 @@
 -- An index of rows by chains. A link is 0 for none and i + 1 for row i: `heads` has the first link of each bucket, `next` the link behind
 -- each row. Definitions only.
 use Prim.Native.Nat.{ℕ, zero, suc, _+_, _*_, _/_, _%_, _<_, _≤_}
+use mathlib.Core.Bool.{Bool, cond}
 use mathlib.Core.Path.{_≡_}
 use mathlib.Core.List.{List, [], _∷_}
 use lib.Dec.{eqb}
@@ -40,6 +41,11 @@ downward (suc n) = n ∷ downward n
 -- those of the row numbers whose row is in bucket b
 abbrev pub inBucket : (Row → ℕ) → List Row → ℕ → List ℕ → List ℕ
 inBucket slot rs b ns = filter (λ i. eqb (slot (nth rs i)) b) ns
+
+-- how many rows come before the first that passes; all of them where none does
+unfoldable pub before : (Row → Bool) → List Row → ℕ
+before p [] = 0
+before p (r ∷ rs) = cond (p r) 0 (suc (before p rs))
 
 -- ---- chains
 

@@ -3,6 +3,7 @@ pub mod Rows
 pub mod Index
 pub mod Positions
 pub mod Sides
+pub mod Known
 pub mod Grouping
 pub mod Merging
 pub mod Written

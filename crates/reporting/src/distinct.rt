@@ -5,6 +5,7 @@ ghost use lib.ListN.{length, take, drop, replicate};
 ghost use Rattle.algebra.specs.Lists.{same, any, firsts};
 ghost use Rattle.reporting.specs.Index.{rowSlot, downward, Index};
 ghost use Rattle.reporting.specs.Rows.{chunk, Gives};
+use crate::index::FEW;
 use crate::index::hash_row;
 use crate::index::link;
 use crate::index::wide;
@@ -148,7 +149,7 @@ pub(crate) fn distinct_front(cells: &mut [u32], m: usize, w: usize) -> usize
     ensures { λ r. ⌜ Gives (firsts (chunk m w (now (cells .entry)))) w m r (now (cells .exit)) ⌝ }
     ensures { λ _. ⌜ drop (m * w) (now (cells .exit)) ≡ drop (m * w) (now (cells .entry)) ⌝ }
 {
-    if m < 32 {
+    if m < FEW {
         return distinct_all(cells, m, w);
     }
     if 4096 < m {

@@ -9,11 +9,13 @@ ghost use Rattle.reading.specs.Nodes.{arity};
 ghost use Rattle.reading.specs.Tree.{operatorOf};
 ghost use Rattle.reporting.specs.Index.{Linked};
 ghost use Rattle.reporting.specs.Keys.{hasKeys};
+ghost use Rattle.reporting.specs.Known.{Shared, Known};
 ghost use Rattle.reporting.specs.Rows.{rowAt, rowsFrom, Gives};
 ghost use Rattle.reporting.specs.Sides.{Equals, FoundInside, keepsRow};
 ghost use Rattle.reporting.specs.Written.{Written, joinedRows, JoinGiven, EachGiven};
 ghost use Rattle.reporting.specs.Evaluation.{StepRoom, EmitGiven};
 use crate::gather::gather;
+use crate::gather::gather_known;
 use crate::gather::gather_linked;
 use crate::rows::copy_row;
 use crate::side::Found;
@@ -187,6 +189,59 @@ pub(crate) fn linked_row(
         return 1;
     }
     if any_linked(found, cells, src, behind, k, v, left, right, heads, next) != (kind == 7) {
+        copy_row(cells, src, dst, w);
+        return 1;
+    }
+    0
+}
+
+// The same where what is asked and measured is the same for every left row, by aggregates that are kept by key: a Semi and an Anti count
+// the right rows that the row meets, and 2147483648 is the number 0.
+pub(crate) fn known_row(
+    node: Node,
+    found: Found,
+    cells: &mut [u32],
+    src: usize,
+    ids: &[u8],
+    dst: usize,
+    behind: usize,
+    k: usize,
+    jds: &[u8],
+    left: usize,
+    right: usize,
+    heads: &[u16],
+    next: &[u16],
+    known: &mut [u32],
+) -> usize
+    requires { ⌜ FoundInside found (length (now ids)) (length (now jds)) × (k ≤ 4096) ⌝ }
+    requires { ⌜ StepRoom (operatorOf node) (now ids) (now jds) k src dst behind × (behind + k * length (now jds) ≤ length (now cells)) ⌝ }
+    requires { ⌜ (hasKeys (node .kind) ≡ true) × (arity (operatorOf node) ≡ 2) × Equals left right (found .keys) ⌝ }
+    requires { ⌜ Linked right k (rowsFrom behind k (length (now jds)) (now cells)) (now heads) (now next) ⌝ }
+    requires { ⌜ Shared found × Known found left right (rowsFrom behind k (length (now jds)) (now cells)) (now known) ⌝ }
+    ensures { λ r. ⌜ EmitGiven node found (now (ids .entry)) (now (jds .entry)) src dst behind k (now (cells .entry)) r (now (cells .exit)) ⌝ }
+    ensures { λ _. ⌜ Known found left right (rowsFrom behind k (length (now (jds .entry))) (now (cells .entry))) (now (known .exit)) ⌝ }
+{
+    let w = ids.len();
+    let v = jds.len();
+    let kind = node.kind;
+    let cell = gather_known(
+        found,
+        cells,
+        src,
+        behind,
+        k,
+        v,
+        left,
+        right,
+        heads,
+        next,
+        known,
+    );
+    if kind == 12 {
+        write_with(cells, src, w, dst, cell);
+        return 1;
+    }
+    if (cell != 2147483648) != (kind == 7) {
         copy_row(cells, src, dst, w);
         return 1;
     }

@@ -1,50 +1,30 @@
 // The evaluator. Node evaluation and the evaluation of an inner plan for one left row call each other; the subtree gets smaller.
 ghost use mathlib.Core.Path.{_≡_};
-ghost use mathlib.Core.Bool.{true};
 ghost use Prim.Native.Nat.{_+_, _*_, _-_, _≤_};
 ghost use lib.ListN.{length};
 ghost use Rattle.reading.specs.Tree.{operatorOf};
 ghost use Rattle.reading.specs.Nodes.{arity};
-ghost use Rattle.reporting.specs.Index.{Linked};
-ghost use Rattle.reporting.specs.Keys.{hasKeys};
-ghost use Rattle.reporting.specs.Rows.{envOf, rowsFrom, emittedColumns, emittedMost};
-ghost use Rattle.reporting.specs.Sides.{Equals, FoundFor, FoundSomewhere};
+ghost use Rattle.reporting.specs.Rows.{envOf, emittedMost};
+ghost use Rattle.reporting.specs.Sides.{FoundFor};
 ghost use Rattle.reporting.specs.Evaluation.{columnsAt, boundAt, widthAt, SoundAt, ReadyAt, TreeGiven, UnaryRoom, UnaryGiven};
-ghost use Rattle.reporting.specs.Evaluation.{StepRoom, LoopRoom, PlainGiven, EmitsGiven, NestedStep, NestedGiven};
+ghost use Rattle.reporting.specs.Evaluation.{StepRoom, LoopRoom, PlainGiven, NestedStep, NestedGiven};
 use crate::act::act;
 use crate::columns::columns_into;
 use crate::columns::share_at;
 use crate::columns::tree_part;
 use crate::emit::emit_row;
-use crate::emit::linked_row;
 use crate::env::inner_env;
-use crate::index::build;
 use crate::leaf::leaf;
+use crate::matching::emitted_width;
+use crate::matching::rows_of_each;
 use crate::nesting::runs_once;
 use crate::side::Found;
-use crate::side::KeyPlaces;
 use crate::side::find;
-use crate::side::key_places;
-use crate::test::has_keys;
 use reading::kinds::children_of;
 use reading::plan::Node;
 use reading::plan::node_at;
 use reading::tree::nodes_of;
 use reading::tree::tree_end;
-
-// How many columns a node with two children gives, of its children's.
-fn emitted_width(node: Node, ids: &[u8], jds: &[u8]) -> usize
-    requires { ⌜ (arity (operatorOf node) ≡ 2) × (length (now ids) ≤ 32) × (length (now jds) ≤ 32) ⌝ }
-    ensures { λ r. ⌜ r ≡ length (emittedColumns (operatorOf node) (now (ids .entry)) (now (jds .entry))) ⌝ }
-{
-    let w = ids.len();
-    let kind = node.kind;
-    match kind {
-        5 | 11 => w + jds.len(),
-        10 | 12 => w + 1,
-        _ => w,
-    }
-}
 
 // ---- outside of the cycle: nodes whose children's rows stand in cells
 
@@ -67,169 +47,6 @@ pub(crate) fn unary_at(
     let mut ids = [0u8; 32];
     let w = columns_into(set, plan, left, &mut ids);
     act(node, cells, own, m, &ids[0..w], env)
-}
-
-// The rows of each of m left rows at `own`, at the front; the k right rows stand at `behind`.
-fn plain_loop(
-    node: Node,
-    found: Found,
-    cells: &mut [u32],
-    own: usize,
-    m: usize,
-    ids: &[u8],
-    behind: usize,
-    k: usize,
-    jds: &[u8],
-) -> usize
-    requires { ⌜ FoundSomewhere node (now ids) (now jds) found × (arity (operatorOf node) ≡ 2) ⌝ }
-    requires { ⌜ (length (now ids) ≤ 32) × (length (now jds) ≤ 32) × (k ≤ 4096) × (m * emittedMost (operatorOf node) k ≤ 4096) ⌝ }
-    requires { ⌜ LoopRoom (operatorOf node) (now ids) (now jds) k own m behind × (behind + k * length (now jds) ≤ length (now cells)) ⌝ }
-    ensures { λ r. ⌜ EmitsGiven node found (now (ids .entry)) (now (jds .entry)) own m behind k (now (cells .entry)) r (now (cells .exit)) ⌝ }
-{
-    let w = ids.len();
-    let wo = emitted_width(node, ids, jds);
-    let mut i = 0;
-    let mut out = 0;
-    let mut src = own;
-    let mut dst = 0;
-    while i < m {
-        let r = emit_row(node, found, cells, src, ids, dst, behind, k, jds);
-        out += r;
-        dst += r * wo;
-        i += 1;
-        src += w;
-    }
-    out
-}
-
-// The same for a Semi, an Anti or a Pair whose keys are compared by =, through an index of the right rows.
-fn linked_loop(
-    node: Node,
-    found: Found,
-    cells: &mut [u32],
-    own: usize,
-    m: usize,
-    ids: &[u8],
-    behind: usize,
-    k: usize,
-    jds: &[u8],
-    left: usize,
-    right: usize,
-    heads: &[u16],
-    next: &[u16],
-) -> usize
-    requires { ⌜ FoundSomewhere node (now ids) (now jds) found × (arity (operatorOf node) ≡ 2) ⌝ }
-    requires { ⌜ (length (now ids) ≤ 32) × (length (now jds) ≤ 32) × (k ≤ 4096) × (m * emittedMost (operatorOf node) k ≤ 4096) ⌝ }
-    requires { ⌜ LoopRoom (operatorOf node) (now ids) (now jds) k own m behind × (behind + k * length (now jds) ≤ length (now cells)) ⌝ }
-    requires { ⌜ (hasKeys (node .kind) ≡ true) × Equals left right (found .keys) ⌝ }
-    requires { ⌜ Linked right k (rowsFrom behind k (length (now jds)) (now cells)) (now heads) (now next) ⌝ }
-    ensures { λ r. ⌜ EmitsGiven node found (now (ids .entry)) (now (jds .entry)) own m behind k (now (cells .entry)) r (now (cells .exit)) ⌝ }
-{
-    let w = ids.len();
-    let wo = emitted_width(node, ids, jds);
-    let mut i = 0;
-    let mut out = 0;
-    let mut src = own;
-    let mut dst = 0;
-    while i < m {
-        let r = linked_row(
-            node,
-            found,
-            cells,
-            src,
-            ids,
-            dst,
-            behind,
-            k,
-            jds,
-            left,
-            right,
-            heads,
-            next,
-        );
-        out += r;
-        dst += r * wo;
-        i += 1;
-        src += w;
-    }
-    out
-}
-
-// The same, with the index made first.
-fn linked_at(
-    node: Node,
-    found: Found,
-    cells: &mut [u32],
-    own: usize,
-    m: usize,
-    ids: &[u8],
-    behind: usize,
-    k: usize,
-    jds: &[u8],
-    left: usize,
-    right: usize,
-) -> usize
-    requires { ⌜ FoundSomewhere node (now ids) (now jds) found × (arity (operatorOf node) ≡ 2) ⌝ }
-    requires { ⌜ (length (now ids) ≤ 32) × (length (now jds) ≤ 32) × (k ≤ 4096) × (m * emittedMost (operatorOf node) k ≤ 4096) ⌝ }
-    requires { ⌜ LoopRoom (operatorOf node) (now ids) (now jds) k own m behind × (behind + k * length (now jds) ≤ length (now cells)) ⌝ }
-    requires { ⌜ (hasKeys (node .kind) ≡ true) × Equals left right (found .keys) ⌝ }
-    ensures { λ r. ⌜ EmitsGiven node found (now (ids .entry)) (now (jds .entry)) own m behind k (now (cells .entry)) r (now (cells .exit)) ⌝ }
-{
-    let mut heads = [0u16; 4096];
-    let mut next = [0u16; 4096];
-    build(&cells[behind..], jds.len(), right, k, &mut heads, &mut next);
-    linked_loop(
-        node,
-        found,
-        cells,
-        own,
-        m,
-        ids,
-        behind,
-        k,
-        jds,
-        left,
-        right,
-        &heads,
-        &next,
-    )
-}
-
-// Right rows are indexed from so many on: with fewer, making the index costs more than it saves.
-const FEW: usize = 32;
-
-// The rows of each of m left rows at `own`, at the front. Its columns are found once, and its right rows are indexed where that serves.
-fn rows_of_each(
-    node: Node,
-    cells: &mut [u32],
-    own: usize,
-    m: usize,
-    ids: &[u8],
-    behind: usize,
-    k: usize,
-    jds: &[u8],
-    env: &[u32],
-) -> usize
-    requires { ⌜ (arity (operatorOf node) ≡ 2) × (length (now env) ≡ 256) ⌝ }
-    requires { ⌜ (length (now ids) ≤ 32) × (length (now jds) ≤ 32) × (k ≤ 4096) × (m * emittedMost (operatorOf node) k ≤ 4096) ⌝ }
-    requires { ⌜ LoopRoom (operatorOf node) (now ids) (now jds) k own m behind × (behind + k * length (now jds) ≤ length (now cells)) ⌝ }
-    ensures { λ r. ⌜ PlainGiven (operatorOf node) (now (ids .entry)) (now (jds .entry)) (envOf (now (env .entry)))
-        own m behind k (now (cells .entry)) r (now (cells .exit)) ⌝ }
-{
-    let found = find(node, ids, jds, env);
-    if k < FEW {
-        return plain_loop(node, found, cells, own, m, ids, behind, k, jds);
-    }
-    if !has_keys(node.kind) {
-        return plain_loop(node, found, cells, own, m, ids, behind, k, jds);
-    }
-    let keys = found.keys;
-    match key_places(keys) {
-        KeyPlaces::Equal { left, right } => {
-            linked_at(node, found, cells, own, m, ids, behind, k, jds, left, right)
-        }
-        KeyPlaces::Other => plain_loop(node, found, cells, own, m, ids, behind, k, jds),
-    }
 }
 
 // A node with two children, at places `left` and `right`, whose right rows are the same for every left row; the rows stand at `own` and at

@@ -8,11 +8,13 @@ ghost use lib.ListN.{length, drop};
 ghost use Rattle.algebra.specs.Cells.{blank, sumOf};
 ghost use Rattle.reading.specs.Tree.{aggregateOf, operatorOf};
 ghost use Rattle.reporting.specs.Index.{Linked};
+ghost use Rattle.reporting.specs.Known.{Shared, Known};
 ghost use Rattle.reporting.specs.Rows.{rowsFrom, aggregateIn};
 ghost use Rattle.reporting.specs.Sides.{Equals, FoundInside, foundCell};
 ghost use Rattle.reporting.specs.Tallies.{Tallies, Bounded, lesser, added, tallied};
 use crate::cells::is_number;
 use crate::index::bucket;
+use crate::index::first_linked;
 use crate::index::wide;
 use crate::side::Found;
 use crate::side::side_cell;
@@ -223,4 +225,36 @@ pub(crate) fn gather_linked(
         h = wide(next[i]);
     }
     tally.result(found.code)
+}
+
+// The same where what is asked and measured is the same for every left row: it is worked out once for a key, and kept under the number of
+// the first right row with that key, or under k where no right row has it. 0 is kept for none.
+pub(crate) fn gather_known(
+    found: Found,
+    cells: &[u32],
+    src: usize,
+    behind: usize,
+    k: usize,
+    v: usize,
+    left: usize,
+    right: usize,
+    heads: &[u16],
+    next: &[u16],
+    known: &mut [u32],
+) -> u32
+    requires { ⌜ FoundInside found (length (now cells) - src) v × (behind + k * v ≤ length (now cells)) × (k ≤ 4096) ⌝ }
+    requires { ⌜ Equals left right (found .keys) × Linked right k (rowsFrom behind k v (now cells)) (now heads) (now next) ⌝ }
+    requires { ⌜ Shared found × Known found left right (rowsFrom behind k v (now cells)) (now known) ⌝ }
+    ensures { λ r. ⌜ r ≡ foundCell found (drop src (now (cells .entry))) (rowsFrom behind k v (now (cells .entry))) ⌝ }
+    ensures { λ _. ⌜ Known found left right (rowsFrom behind k v (now (cells .entry))) (now (known .exit)) ⌝ }
+{
+    let key = cells[src + left];
+    let first = first_linked(cells, behind, k, v, right, key, heads, next);
+    let kept = known[first];
+    if 0 < kept {
+        return kept;
+    }
+    let cell = gather_linked(found, cells, src, behind, k, v, left, right, heads, next);
+    known[first] = cell;
+    cell
 }

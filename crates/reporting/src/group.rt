@@ -3,19 +3,18 @@ ghost use mathlib.Core.Path.{_≡_};
 ghost use mathlib.Core.Bool.{true};
 ghost use mathlib.Core.List.{[], _∷_};
 ghost use Prim.Native.Nat.{_+_, _*_, _≤_, _<_};
-ghost use lib.Dec.{eqb};
 ghost use lib.ListN.{length, take, getD};
 ghost use Rattle.algebra.specs.Lists.{same, any};
 ghost use Rattle.reading.specs.Tree.{operatorOf};
 ghost use Rattle.reporting.specs.Index.{Linked};
 ghost use Rattle.reporting.specs.Rows.{chunk, rowsFrom, envOf, acted, Gives};
 ghost use Rattle.reporting.specs.Sides.{sideCell, SideInside, Equals, FoundInside};
-ghost use Rattle.reporting.specs.Grouping.{before, groupedBy, KeyWritten};
+ghost use Rattle.reporting.specs.Grouping.{groupedBy, KeyWritten};
 use crate::gather::gather;
 use crate::gather::gather_linked;
-use crate::index::bucket;
+use crate::index::FEW;
 use crate::index::build;
-use crate::index::wide;
+use crate::index::first_linked;
 use crate::places::place_of;
 use crate::side::Condition;
 use crate::side::Found;
@@ -74,32 +73,6 @@ fn group_all(found: Found, cells: &mut [u32], own: usize, m: usize, w: usize, si
         src += w;
     }
     out
-}
-
-// The number of the first of m indexed rows at `own` whose cell at a place is this one, which is that of some row.
-fn first_linked(
-    cells: &[u32],
-    own: usize,
-    m: usize,
-    w: usize,
-    place: usize,
-    key: u32,
-    heads: &[u16],
-    next: &[u16],
-) -> usize
-    requires { ⌜ (place < w) × (own + m * w ≤ length (now cells)) ⌝ }
-    requires { ⌜ Linked place m (rowsFrom own m w (now cells)) (now heads) (now next) ⌝ }
-    ensures { λ r. ⌜ r ≡ before (λ q. eqb (getD q place 0) key) (rowsFrom own m w (now (cells .entry))) ⌝ }
-{
-    let mut h = wide(heads[bucket(key)]);
-    while 0 < h {
-        let i = h - 1;
-        if cells[own + i * w + place] == key {
-            return i;
-        }
-        h = wide(next[i]);
-    }
-    m
 }
 
 // As give_key, through an index of the rows by their key.
@@ -189,9 +162,6 @@ fn key_at(keys: Condition, place: usize) -> bool
         KeyPlaces::Other => false,
     }
 }
-
-// Rows are indexed from so many on: with fewer, making the index costs more than it saves.
-const FEW: usize = 32;
 
 // Each first occurrence of the right key among m rows at `own`, with its aggregate over these rows: rows of two cells, at the front.
 pub(crate) fn group(

@@ -1,10 +1,14 @@
 // An index of rows by chains: rows of one bucket are linked, so that the rows with a key are found without a look at all the others.
 ghost use mathlib.Core.Path.{_≡_};
 ghost use Prim.Native.Nat.{_+_, _*_, _%_, _≤_, _<_};
+ghost use lib.Dec.{eqb};
 ghost use lib.ListN.{length, getD, set, replicate};
 ghost use Rattle.algebra.specs.Lists.{upward};
-ghost use Rattle.reporting.specs.Index.{bucketOf, slotOf, rowSlot, Index};
-ghost use Rattle.reporting.specs.Rows.{chunk};
+ghost use Rattle.reporting.specs.Index.{bucketOf, slotOf, rowSlot, Index, Linked, before};
+ghost use Rattle.reporting.specs.Rows.{chunk, rowsFrom};
+
+// Rows are indexed from so many on: with fewer, making the index costs more than it saves.
+pub(crate) const FEW: usize = 32;
 
 // The bucket of a key.
 pub(crate) fn bucket(key: u32) -> usize
@@ -70,4 +74,30 @@ pub(crate) fn build(
         let b = bucket(rows[i * w + place]);
         link(heads, next, b, i);
     }
+}
+
+// The number of the first of m indexed rows at `own` whose cell at a place is this one; m where there is none.
+pub(crate) fn first_linked(
+    cells: &[u32],
+    own: usize,
+    m: usize,
+    w: usize,
+    place: usize,
+    key: u32,
+    heads: &[u16],
+    next: &[u16],
+) -> usize
+    requires { ⌜ (place < w) × (own + m * w ≤ length (now cells)) ⌝ }
+    requires { ⌜ Linked place m (rowsFrom own m w (now cells)) (now heads) (now next) ⌝ }
+    ensures { λ r. ⌜ r ≡ before (λ q. eqb (getD q place 0) key) (rowsFrom own m w (now (cells .entry))) ⌝ }
+{
+    let mut h = wide(heads[bucket(key)]);
+    while 0 < h {
+        let i = h - 1;
+        if cells[own + i * w + place] == key {
+            return i;
+        }
+        h = wide(next[i]);
+    }
+    m
 }

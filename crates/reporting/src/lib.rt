@@ -11,6 +11,7 @@ mod gather;
 mod group;
 mod index;
 mod leaf;
+mod matching;
 mod merge;
 mod nesting;
 mod order;

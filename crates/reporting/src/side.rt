@@ -7,6 +7,7 @@ ghost use Rattle.reading.specs.Tree.{formOf};
 ghost use Rattle.reporting.specs.Keys.{keysHold};
 ghost use Rattle.reporting.specs.Rows.{envOf};
 ghost use Rattle.reporting.specs.Sides.{sideCell, SideInside, SideFor, MeasuredFor, ConditionFor, PlacesFor, FoundFor, sidePlaces, turnedFound};
+ghost use Rattle.reporting.specs.Known.{sideShared, SharedIf};
 use crate::gather::aggregate_code;
 use crate::places::place_of;
 use crate::test::has_keys;
@@ -72,6 +73,17 @@ pub(crate) fn side_cell(side: Side, cells: &[u32], src: usize, at: usize) -> u32
         Side::Left(place) => cells[src + place],
         Side::Right(place) => cells[at + place],
         Side::Word(word) => word,
+    }
+}
+
+// Whether a side is the same for every left row.
+fn side_shared(side: Side) -> bool
+    ensures { λ r. ⌜ r ≡ sideShared side ⌝ }
+{
+    match side {
+        Side::Left(_) => false,
+        Side::Right(_) => true,
+        Side::Word(_) => true,
     }
 }
 
@@ -195,6 +207,23 @@ pub(crate) fn find(node: Node, cs: &[u8], ds: &[u8], env: &[u32]) -> Found
         code,
         measured,
     }
+}
+
+// Whether a node's test and what its aggregate measures are the same for every left row.
+pub(crate) fn is_shared(found: Found) -> bool
+    ensures { λ r. ⌜ SharedIf r found ⌝ }
+{
+    let test = found.test;
+    let left = test.left;
+    let right = test.right;
+    let measured = found.measured;
+    if !side_shared(left) {
+        return false;
+    }
+    if !side_shared(right) {
+        return false;
+    }
+    side_shared(measured)
 }
 
 impl Found {

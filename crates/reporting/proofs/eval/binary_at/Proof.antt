@@ -7,7 +7,7 @@ use Rattle.reporting.proofs.eval.binary_at.Tie as tie
 use Rattle.reporting.proofs.eval.binary_at.Reads as reads
 use Rattle.reporting.proofs.eval.binary_at.Lts as lts
 use Rattle.reporting.proofs.columns.columns_into.Reads as columns-into-reads
-use Rattle.reporting.proofs.eval.rows_of_each.Reads as rows-of-each-reads
+use Rattle.reporting.proofs.matching.rows_of_each.Reads as rows-of-each-reads
 
 -- src/eval.rt:149:43
 slice-aggregate-columns-into : tie.Need-slice-aggregate-columns-into

@@ -14,7 +14,7 @@ use Rattle.reporting.proofs.group.group_linked.Statement.{statement}
 use Rattle.reporting.proofs.group.group_linked.Tie as tie
 use Rattle.reporting.proofs.group.group_linked.Reads as reads
 use Rattle.reporting.proofs.group.group_linked.Lts as lts
-use Rattle.reporting.proofs.group.first_linked.Reads as first-linked-reads
+use Rattle.reporting.proofs.index.first_linked.Reads as first-linked-reads
 use Rattle.reporting.proofs.group.give_linked.Reads as give-linked-reads
 
 abbrev Inv-loop : tie.InvT-loop

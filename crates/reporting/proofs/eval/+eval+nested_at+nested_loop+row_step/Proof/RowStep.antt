@@ -26,7 +26,7 @@ use Rattle.reporting.proofs.columns.share_at.Reads as share-at-reads
 use Rattle.reporting.proofs.emit.emit_row.Reads as emit-row-reads
 use Rattle.reporting.proofs.env.inner_env.Reads as inner-env-reads
 use Rattle.reporting.proofs.eval.binary_at.Reads as binary-at-reads
-use Rattle.reporting.proofs.eval.emitted_width.Reads as emitted-width-reads
+use Rattle.reporting.proofs.matching.emitted_width.Reads as emitted-width-reads
 use Rattle.reporting.proofs.nesting.runs_once.Reads as runs-once-reads
 use Rattle.reporting.proofs.eval.unary_at.Reads as unary-at-reads
 use Rattle.reporting.proofs.leaf.leaf.Reads as leaf-reads

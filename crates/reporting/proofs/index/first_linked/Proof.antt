@@ -6,16 +6,15 @@ use borrow.Author.Needs.{needs}
 use lib.Dec.{eqb}
 use lib.ListN.{length, getD, drop}
 use Rattle.algebra.specs.Plans.{Row}
-use Rattle.reporting.specs.Grouping.{before}
 use Rattle.reporting.specs.Rows.{chunk}
-use Rattle.reporting.specs.Index.{slotOf, chain}
+use Rattle.reporting.specs.Index.{slotOf, before, chain}
 use Rattle.reporting.proofs.Chunks.{turns, length-chunk}
 use Rattle.reporting.proofs.Chains.{Walk, walk-inside, walk-less, walk-on, found-walk}
 use Rattle.reporting.proofs.Earliest.{earliest, keyAt, earliest-start, earliest-here, earliest-next, earliest-end}
-use Rattle.reporting.proofs.group.first_linked.Statement.{statement}
-use Rattle.reporting.proofs.group.first_linked.Tie as tie
-use Rattle.reporting.proofs.group.first_linked.Reads as reads
-use Rattle.reporting.proofs.group.first_linked.Lts as lts
+use Rattle.reporting.proofs.index.first_linked.Statement.{statement}
+use Rattle.reporting.proofs.index.first_linked.Tie as tie
+use Rattle.reporting.proofs.index.first_linked.Reads as reads
+use Rattle.reporting.proofs.index.first_linked.Lts as lts
 use Rattle.reporting.proofs.index.bucket.Reads as bucket-reads
 use Rattle.reporting.proofs.index.wide.Reads as wide-reads
 
