@@ -10,6 +10,7 @@ mod eval;
 mod gather;
 mod group;
 mod index;
+mod insertion;
 mod leaf;
 mod matching;
 mod merge;

@@ -86,7 +86,7 @@ sort-by-requires c κs =
     let p = c .before .before .before .before .before .before .before .before .before .before .before .before .pre in
     let l = c .before .before .before .before .before .list-length in
     let e = ap (λ (x : List ℕ). a .m * length x) (sort-columns (a .node) (a .ids .now) (c .before .before .before .before .if3 .taken)) in
-    ((p .0 .3, omega (arith, ap length (part (c .before .before .before .before .before)), l .ensures .0, l .ensures .1), p .0 .2), (omega (arith, rw (sort-region (a .node) (a .ids .now) (c .before .before .before .before .if3 .taken)) at (p .1 .share)), p .1 .cuts .inside))
+    ((p .0 .3, omega (arith, ap length (part (c .before .before .before .before .before)), l .ensures .0, l .ensures .1)), (omega (arith, rw (sort-region (a .node) (a .ids .now) (c .before .before .before .before .if3 .taken)) at (p .1 .share)), p .1 .cuts .inside))
 
 -- src/act.rt:40:9
 same-length-3 : tie.Need-same-length-3
