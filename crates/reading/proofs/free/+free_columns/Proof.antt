@@ -36,7 +36,7 @@ free-columns-below t =
     (falls 2 free-columns-kinds.ps _<_ μ-free-columns t)
     free-columns.Pre
 
--- src/free.rt:159:8
+-- src/free.rt:168:8
 free-columns-nodes-of-requires : (t : ℕ) → free-columns-lts.Need-nodes-of-requires (
   nodes-of-reads.Asked,
   nodes-of-reads.Learnt,
@@ -55,7 +55,7 @@ free-columns-nodes-of-requires : (t : ℕ) → free-columns-lts.Need-nodes-of-re
 ) (free-columns-at t) free-columns.Post
 free-columns-nodes-of-requires t c κs = tt
 
--- src/free.rt:160:9
+-- src/free.rt:169:9
 free-columns-returns : (t : ℕ) → free-columns-lts.Need-returns (
   nodes-of-reads.Asked,
   nodes-of-reads.Learnt,
@@ -75,7 +75,7 @@ free-columns-returns : (t : ℕ) → free-columns-lts.Need-returns (
 unfolding free
 free-columns-returns t c = rw (plan-past (c .before .before .before .before .args .plan .now) (c .before .before .before .before .args .i) (omega arith)) flags-none
 
--- src/free.rt:162:9
+-- src/free.rt:171:9
 free-columns-node-at-requires : (t : ℕ) → free-columns-lts.Need-node-at-requires (
   nodes-of-reads.Asked,
   nodes-of-reads.Learnt,
@@ -94,7 +94,7 @@ free-columns-node-at-requires : (t : ℕ) → free-columns-lts.Need-node-at-requ
 ) (free-columns-at t) free-columns.Post
 free-columns-node-at-requires t c κs = tt
 
--- src/free.rt:163:9
+-- src/free.rt:172:9
 free-columns-children-of-requires : (t : ℕ) → free-columns-lts.Need-children-of-requires (
   nodes-of-reads.Asked,
   nodes-of-reads.Learnt,
@@ -113,7 +113,7 @@ free-columns-children-of-requires : (t : ℕ) → free-columns-lts.Need-children
 ) (free-columns-at t) free-columns.Post
 free-columns-children-of-requires t c κs = tt
 
--- src/free.rt:165:9
+-- src/free.rt:174:9
 free-columns-returns-2 : (t : ℕ) → free-columns-lts.Need-returns-2 (
   nodes-of-reads.Asked,
   nodes-of-reads.Learnt,
@@ -136,7 +136,7 @@ free-columns-returns-2 t c =
     let k = c .before .children-of in
     flags-is (read-leaf (tablesOf (a .set .now)) (a .plan .now) (a .i) (omega arith) (n .result) (n .ensures) (k .result) (k .ensures) (c .if2 .taken)) flags-none
 
--- src/free.rt:167:41
+-- src/free.rt:176:41
 free-columns-add-free-columns : (t : ℕ) → free-columns-lts.Need-add-free-columns (
   nodes-of-reads.Asked,
   nodes-of-reads.Learnt,
@@ -155,7 +155,7 @@ free-columns-add-free-columns : (t : ℕ) → free-columns-lts.Need-add-free-col
 ) (free-columns-at t) free-columns.Post
 free-columns-add-free-columns t c = omega arith
 
--- src/free.rt:167:9
+-- src/free.rt:176:9
 free-columns-free-columns-requires : (t : ℕ) → free-columns-lts.Need-free-columns-requires (
   nodes-of-reads.Asked,
   nodes-of-reads.Learnt,
@@ -174,7 +174,7 @@ free-columns-free-columns-requires : (t : ℕ) → free-columns-lts.Need-free-co
 ) (free-columns-at t) free-columns.Post
 free-columns-free-columns-requires t c κs = omega arith
 
--- src/free.rt:168:54
+-- src/free.rt:177:54
 free-columns-add-add-columns : (t : ℕ) → free-columns-lts.Need-add-add-columns (
   nodes-of-reads.Asked,
   nodes-of-reads.Learnt,
@@ -193,7 +193,7 @@ free-columns-add-add-columns : (t : ℕ) → free-columns-lts.Need-add-add-colum
 ) (free-columns-at t) free-columns.Post
 free-columns-add-add-columns t c = omega arith
 
--- src/free.rt:168:9
+-- src/free.rt:177:9
 free-columns-add-columns-requires : (t : ℕ) → free-columns-lts.Need-add-columns-requires (
   nodes-of-reads.Asked,
   nodes-of-reads.Learnt,
@@ -212,7 +212,7 @@ free-columns-add-columns-requires : (t : ℕ) → free-columns-lts.Need-add-colu
 ) (free-columns-at t) free-columns.Post
 free-columns-add-columns-requires t c κs = tt
 
--- src/free.rt:170:9
+-- src/free.rt:179:9
 free-columns-node-free-requires : (t : ℕ) → free-columns-lts.Need-node-free-requires (
   nodes-of-reads.Asked,
   nodes-of-reads.Learnt,
@@ -231,7 +231,7 @@ free-columns-node-free-requires : (t : ℕ) → free-columns-lts.Need-node-free-
 ) (free-columns-at t) free-columns.Post
 free-columns-node-free-requires t c κs = tt
 
--- src/free.rt:170:9
+-- src/free.rt:179:9
 free-columns-returns-3 : (t : ℕ) → free-columns-lts.Need-returns-3 (
   nodes-of-reads.Asked,
   nodes-of-reads.Learnt,
@@ -255,7 +255,7 @@ free-columns-returns-3 t c =
     flags-same (c .node-free .ensures .gives _ _ _ _ (c .before .before .before .free-columns .ensures) (adds-first (c .before .before .add-columns .ensures)) flags-none flags-none)
     (read-one (tablesOf (a .set .now)) (a .plan .now) (a .i) (omega (arith, c .before .before .before .before .before .before .before .if1 .left, c .before .before .before .before .before .before .before .before .nodes-of .ensures .0)) (n .result) (n .ensures) (k .result) (k .ensures) (c .before .if3 .taken))
 
--- src/free.rt:172:28
+-- src/free.rt:181:28
 free-columns-add-tree-end : (t : ℕ) → free-columns-lts.Need-add-tree-end (
   nodes-of-reads.Asked,
   nodes-of-reads.Learnt,
@@ -274,7 +274,7 @@ free-columns-add-tree-end : (t : ℕ) → free-columns-lts.Need-add-tree-end (
 ) (free-columns-at t) free-columns.Post
 free-columns-add-tree-end t c = omega arith
 
--- src/free.rt:172:9
+-- src/free.rt:181:9
 free-columns-tree-end-requires : (t : ℕ) → free-columns-lts.Need-tree-end-requires (
   nodes-of-reads.Asked,
   nodes-of-reads.Learnt,
@@ -293,7 +293,7 @@ free-columns-tree-end-requires : (t : ℕ) → free-columns-lts.Need-tree-end-re
 ) (free-columns-at t) free-columns.Post
 free-columns-tree-end-requires t c κs = tt
 
--- src/free.rt:173:9
+-- src/free.rt:182:9
 free-columns-free-columns-requires-2 : (t : ℕ) → free-columns-lts.Need-free-columns-requires-2 (
   nodes-of-reads.Asked,
   nodes-of-reads.Learnt,
@@ -312,7 +312,7 @@ free-columns-free-columns-requires-2 : (t : ℕ) → free-columns-lts.Need-free-
 ) (free-columns-at t) free-columns.Post
 free-columns-free-columns-requires-2 t c κs = omega arith
 
--- src/free.rt:174:9
+-- src/free.rt:183:9
 free-columns-add-columns-requires-2 : (t : ℕ) → free-columns-lts.Need-add-columns-requires-2 (
   nodes-of-reads.Asked,
   nodes-of-reads.Learnt,
@@ -331,7 +331,7 @@ free-columns-add-columns-requires-2 : (t : ℕ) → free-columns-lts.Need-add-co
 ) (free-columns-at t) free-columns.Post
 free-columns-add-columns-requires-2 t c κs = tt
 
--- src/free.rt:175:5
+-- src/free.rt:184:5
 free-columns-node-free-requires-2 : (t : ℕ) → free-columns-lts.Need-node-free-requires-2 (
   nodes-of-reads.Asked,
   nodes-of-reads.Learnt,
@@ -350,7 +350,7 @@ free-columns-node-free-requires-2 : (t : ℕ) → free-columns-lts.Need-node-fre
 ) (free-columns-at t) free-columns.Post
 free-columns-node-free-requires-2 t c κs = tt
 
--- src/free.rt:155:1
+-- src/free.rt:164:1
 free-columns-returns-4 : (t : ℕ) → free-columns-lts.Need-returns-4 (
   nodes-of-reads.Asked,
   nodes-of-reads.Learnt,

@@ -7,15 +7,15 @@ use Rattle.reading.proofs.free.add_measure.Reads as reads
 use Rattle.reading.proofs.free.add_measure.Lts as lts
 use Rattle.reading.proofs.flags.add_id.Reads as add-id-reads
 
--- src/free.rt:94:9
+-- src/free.rt:93:9
 returns : tie.Need-returns
 returns c = rw (measured-none (c .before .args .node .arg) (c .before .args .node .column) (c .if1 .taken)) (adds-none _)
 
--- src/free.rt:96:5
+-- src/free.rt:95:5
 add-id-requires : tie.Need-add-id-requires
 add-id-requires c κs = search needs
 
--- src/free.rt:89:1
+-- src/free.rt:88:1
 returns-2 : tie.Need-returns-2
 returns-2 c = rw (measured-one (c .before .before .args .node .arg) (c .before .before .args .node .column) (c .before .if1 .left)) (c .add-id .ensures)
 

@@ -17,43 +17,43 @@ Inv-loop flags other k₀ k = (k ≤ 256) × ((j : ℕ) → j < k → (eqb (getD
 abbrev μ-loop : tie.MeasureT-loop
 μ-loop flags other k₀ k = 256 - k
 
--- src/free.rt:60:5
+-- src/free.rt:59:5
 loop-holds : tie.Need-loop-holds Inv-loop μ-loop
 loop-holds c = (omega arith, λ j l. absurd (omega arith))
 
--- src/free.rt:61:17
+-- src/free.rt:60:17
 array-read-both : tie.Need-array-read-both Inv-loop μ-loop
 array-read-both c = omega arith
 
--- src/free.rt:61:27
+-- src/free.rt:60:27
 array-read-both-2 : tie.Need-array-read-both-2 Inv-loop μ-loop
 array-read-both-2 c = omega arith
 
--- src/free.rt:61:12
+-- src/free.rt:60:12
 both-requires : tie.Need-both-requires Inv-loop μ-loop
 both-requires c κs = tt
 
--- src/free.rt:62:13
+-- src/free.rt:61:13
 returns : tie.Need-returns Inv-loop μ-loop
 returns c =
     let l = c .before .before .before .loop in
     record { decides = λ xs ys f g a. sym (flags-meet f g (l .k) (omega arith) (sym (c .before .both .ensures) ∙ c .if1 .taken)) }
 
--- src/free.rt:64:9
+-- src/free.rt:63:9
 add-k : tie.Need-add-k Inv-loop μ-loop
 add-k c = omega arith
 
--- src/free.rt:60:5
+-- src/free.rt:59:5
 loop-less : tie.Need-loop-less Inv-loop μ-loop
 loop-less c = omega arith
 
--- src/free.rt:60:5
+-- src/free.rt:59:5
 loop-again : tie.Need-loop-again Inv-loop μ-loop
 loop-again c =
     let l = c .before .before .before .loop in
     (omega arith, apart-next (c .before .before .before .before .args .t1) (c .before .before .before .before .args .t2) (l .k) (l .inv .1) (sym (c .before .both .ensures) ∙ c .if1 .left))
 
--- src/free.rt:56:1
+-- src/free.rt:55:1
 returns-2 : tie.Need-returns-2 Inv-loop μ-loop
 returns-2 c =
     let l = c .before .loop in

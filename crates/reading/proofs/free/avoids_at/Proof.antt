@@ -11,19 +11,19 @@ use Rattle.reading.proofs.view.add_columns.Reads as add-columns-reads
 use Rattle.reading.proofs.free.apart.Reads as apart-reads
 use Rattle.reading.proofs.free.free_columns.Reads as free-columns-reads
 
--- src/free.rt:191:9
+-- src/free.rt:200:9
 add-columns-requires : tie.Need-add-columns-requires
 add-columns-requires c κs = search needs
 
--- src/free.rt:192:11
+-- src/free.rt:201:11
 free-columns-requires : tie.Need-free-columns-requires
 free-columns-requires c κs = search needs
 
--- src/free.rt:192:5
+-- src/free.rt:201:5
 apart-requires : tie.Need-apart-requires
 apart-requires c κs = search needs
 
--- src/free.rt:187:1
+-- src/free.rt:196:1
 returns : tie.Need-returns
 returns c =
     let small = free-small (tablesOf (c .before .before .before .before .before .args .set .now)) (c .before .before .before .before .before .args .plan .now) (λ k. omega (arith, c .before .before .before .shared-slice-known2 .given k)) (c .before .before .before .before .before .args .g) in

@@ -4,11 +4,11 @@ use Rattle.reading.proofs.free.both.Tie as tie
 use Rattle.reading.proofs.free.both.Reads as reads
 use Rattle.reading.proofs.free.both.Lts as lts
 
--- src/free.rt:49:1
+-- src/free.rt:48:1
 returns : tie.Need-returns
 returns c = rw (eq-eqb _ 1 (c .if1 .taken))
 
--- src/free.rt:49:1
+-- src/free.rt:48:1
 returns-2 : tie.Need-returns-2
 returns-2 c = rw (ne-eqb _ 1 (c .if1 .left))
 

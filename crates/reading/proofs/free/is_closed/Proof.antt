@@ -13,15 +13,15 @@ use Rattle.reading.proofs.free.is_closed.Lts as lts
 use Rattle.reading.proofs.free.apart.Reads as apart-reads
 use Rattle.reading.proofs.free.free_columns.Reads as free-columns-reads
 
--- src/free.rt:183:11
+-- src/free.rt:192:11
 free-columns-requires : tie.Need-free-columns-requires
 free-columns-requires c κs = search needs
 
--- src/free.rt:183:5
+-- src/free.rt:192:5
 apart-requires : tie.Need-apart-requires
 apart-requires c κs = search needs
 
--- src/free.rt:179:1
+-- src/free.rt:188:1
 returns : tie.Need-returns
 unfolding closed
 returns c =

@@ -7,15 +7,15 @@ use Rattle.reading.proofs.free.local_at.Lts as lts
 use Rattle.reading.proofs.view.add_columns.Reads as add-columns-reads
 use Rattle.reading.proofs.view.test_seen.Reads as test-seen-reads
 
--- src/free.rt:200:9
+-- src/free.rt:209:9
 add-columns-requires : tie.Need-add-columns-requires
 add-columns-requires c κs = search needs
 
--- src/free.rt:202:5
+-- src/free.rt:211:5
 test-seen-requires : tie.Need-test-seen-requires
 test-seen-requires c κs = search needs
 
--- src/free.rt:196:1
+-- src/free.rt:205:1
 returns : tie.Need-returns
 returns c = c .test-seen .ensures .decides _ (adds-first (c .before .add-columns .ensures))
 

@@ -9,16 +9,16 @@ use Rattle.reading.proofs.free.names_of.Tie as tie
 use Rattle.reading.proofs.free.names_of.Reads as reads
 use Rattle.reading.proofs.free.names_of.Lts as lts
 
--- src/free.rt:31:18
+-- src/free.rt:30:18
 array-read-result : tie.Need-array-read-result
 array-read-result c = search needs
 
--- src/free.rt:27:1
+-- src/free.rt:26:1
 returns : tie.Need-returns
 unfolding namesTable
 returns c = refl
 
--- src/free.rt:27:1
+-- src/free.rt:26:1
 returns-2 : tie.Need-returns-2
 unfolding namesTable
 returns-2 c =

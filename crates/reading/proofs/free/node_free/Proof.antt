@@ -8,31 +8,31 @@ use Rattle.reading.proofs.free.inner_free.Reads as inner-free-reads
 use Rattle.reading.proofs.free.node_names.Reads as node-names-reads
 use Rattle.reading.proofs.free.set_where.Reads as set-where-reads
 
--- src/free.rt:149:35
+-- src/free.rt:148:35
 node-names-requires : tie.Need-node-names-requires
 node-names-requires c κs = search needs
 
--- src/free.rt:149:25
+-- src/free.rt:148:25
 set-where-requires : tie.Need-set-where-requires
 set-where-requires c κs = search needs
 
--- src/free.rt:149:9
+-- src/free.rt:148:9
 set-where-requires-2 : tie.Need-set-where-requires-2
 set-where-requires-2 c κs = search needs
 
--- src/free.rt:150:9
+-- src/free.rt:149:9
 inner-free-requires : tie.Need-inner-free-requires
 inner-free-requires c κs = search needs
 
--- src/free.rt:151:22
+-- src/free.rt:150:22
 set-where-requires-3 : tie.Need-set-where-requires-3
 set-where-requires-3 c κs = search needs
 
--- src/free.rt:151:5
+-- src/free.rt:150:5
 set-where-requires-4 : tie.Need-set-where-requires-4
 set-where-requires-4 c κs = search needs
 
--- src/free.rt:146:1
+-- src/free.rt:145:1
 returns : tie.Need-returns
 returns c = record {
   gives = λ fs xs gs ys f k s d.

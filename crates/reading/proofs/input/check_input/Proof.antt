@@ -8,29 +8,29 @@ use Rattle.reading.proofs.input.check_input.Lts as lts
 use Rattle.reading.proofs.input.check_plan.Reads as check-plan-reads
 use Rattle.reading.proofs.set.read_set.Reads as read-set-reads
 
--- src/input.rt:76:11
+-- src/input.rt:72:11
 read-set-requires : tie.Need-read-set-requires
 read-set-requires c κs = search needs
 
--- src/input.rt:77:26
+-- src/input.rt:73:26
 enum-known-number : tie.Need-enum-known-number
 enum-known-number c = search needs
 
--- src/input.rt:78:24
+-- src/input.rt:74:24
 enum-known-tables : tie.Need-enum-known-tables
 enum-known-tables c = search needs
 
--- src/input.rt:78:35
+-- src/input.rt:74:35
 check-plan-requires : tie.Need-check-plan-requires
 check-plan-requires c κs = search needs
 
--- src/input.rt:73:1
+-- src/input.rt:69:1
 returns : tie.Need-returns
 returns c =
     let a = c .before .before .before .before .before .before .args in
     sym (check-set (a .set .now) (a .plan .now) _ (sym (c .before .before .before .read-set .ensures) ∙ c .before .number .given .1))
 
--- src/input.rt:73:1
+-- src/input.rt:69:1
 returns-2 : tie.Need-returns-2
 returns-2 c =
     let a = c .before .before .before .before .before .before .before .args in

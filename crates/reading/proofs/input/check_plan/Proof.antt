@@ -8,29 +8,29 @@ use Rattle.reading.proofs.input.check_plan.Lts as lts
 use Rattle.reading.proofs.input.check_tree.Reads as check-tree-reads
 use Rattle.reading.proofs.plan.read_plan.Reads as read-plan-reads
 
--- src/input.rt:66:11
+-- src/input.rt:63:11
 read-plan-requires : tie.Need-read-plan-requires
 read-plan-requires c κs = search needs
 
--- src/input.rt:67:27
+-- src/input.rt:64:27
 enum-known-number : tie.Need-enum-known-number
 enum-known-number c = search needs
 
--- src/input.rt:68:25
+-- src/input.rt:65:25
 enum-known-nodes : tie.Need-enum-known-nodes
 enum-known-nodes c = search needs
 
--- src/input.rt:68:35
+-- src/input.rt:65:35
 check-tree-requires : tie.Need-check-tree-requires
 check-tree-requires c κs = sym (c .before .before .before .read-plan .ensures) ∙ c .before .nodes .given .1
 
--- src/input.rt:62:1
+-- src/input.rt:59:1
 returns : tie.Need-returns
 returns c =
     let a = c .before .before .before .before .before .before .args in
     sym (check-plan (a .set .now) (a .plan .now) (a .tables) _ (sym (c .before .before .before .read-plan .ensures) ∙ c .before .number .given .1))
 
--- src/input.rt:62:1
+-- src/input.rt:59:1
 returns-2 : tie.Need-returns-2
 returns-2 c = search needs
 

@@ -49,74 +49,74 @@ narrow-all c = sym (c .before .rows-narrow .ensures) ∙ not-false _ (c .if5 .le
 low-all : (c : tie.Else6) → allBelow (nodesOf (c .before .before .before .before .before .before .before .before .before .before .before .before .before .before .args .plan .now)) (λ i. low (tablesOf (c .before .before .before .before .before .before .before .before .before .before .before .before .before .before .args .set .now)) (planAt (c .before .before .before .before .before .before .before .before .before .before .before .before .before .before .args .plan .now) i)) ≡ true
 low-all c = sym (c .before .bounds-low .ensures) ∙ not-false _ (c .if6 .left)
 
--- src/input.rt:36:9
+-- src/input.rt:33:9
 whole-tree-requires : tie.Need-whole-tree-requires
 whole-tree-requires c κs = search needs
 
--- src/input.rt:37:9
+-- src/input.rt:34:9
 returns : tie.Need-returns
 returns c =
     let a = c .before .before .before .before .args in
     sym (check-tree (a .set .now) (a .plan .now) (a .tables) (a .nodes) (c .before .before .before .before .pre) (sym (c .before .whole-tree .ensures) ∙ not-true _ (c .if1 .taken)))
 
--- src/input.rt:39:9
+-- src/input.rt:36:9
 tables-found-requires : tie.Need-tables-found-requires
 tables-found-requires c κs = search needs
 
--- src/input.rt:40:9
+-- src/input.rt:37:9
 returns-2 : tie.Need-returns-2
 returns-2 c =
     let a = c .before .before .before .before .before .before .args in
     sym (check-11 (a .set .now) (a .plan .now) (a .tables) (a .nodes) (c .before .before .before .before .before .before .pre) (whole (c .before .before)) (sym (found-is (c .before)) ∙ not-true _ (c .if2 .taken)))
 
--- src/input.rt:42:9
+-- src/input.rt:39:9
 ids-once-requires : tie.Need-ids-once-requires
 ids-once-requires c κs = search needs
 
--- src/input.rt:43:9
+-- src/input.rt:40:9
 returns-3 : tie.Need-returns-3
 returns-3 c =
     let a = c .before .before .before .before .before .before .before .before .args in
     sym (check-12-once (a .set .now) (a .plan .now) (a .tables) (a .nodes) (c .before .before .before .before .before .before .before .before .pre) (whole (c .before .before .before .before)) (found-all (c .before .before)) (sym (c .before .ids-once .ensures) ∙ not-true _ (c .if3 .taken)))
 
--- src/input.rt:45:9
+-- src/input.rt:42:9
 tree-seen-requires : tie.Need-tree-seen-requires
 tree-seen-requires c κs = search needs
 
--- src/input.rt:46:9
+-- src/input.rt:43:9
 returns-4 : tie.Need-returns-4
 returns-4 c =
     let a = c .before .before .before .before .before .before .before .before .before .before .args in
     sym (check-12-view (a .set .now) (a .plan .now) (a .tables) (a .nodes) (c .before .before .before .before .before .before .before .before .before .before .pre) (whole (c .before .before .before .before .before .before)) (found-all (c .before .before .before .before)) (once-all (c .before .before)) (sym (seen-is (c .before)) ∙ not-true _ (c .if4 .taken)))
 
--- src/input.rt:48:9
+-- src/input.rt:45:9
 rows-narrow-requires : tie.Need-rows-narrow-requires
 rows-narrow-requires c κs = search needs
 
--- src/input.rt:49:9
+-- src/input.rt:46:9
 returns-5 : tie.Need-returns-5
 returns-5 c =
     let a = c .before .before .before .before .before .before .before .before .before .before .before .before .args in
     sym (check-13 (a .set .now) (a .plan .now) (a .tables) (a .nodes) (c .before .before .before .before .before .before .before .before .before .before .before .before .pre) (whole (c .before .before .before .before .before .before .before .before)) (found-all (c .before .before .before .before .before .before)) (once-all (c .before .before .before .before)) (seen-all (c .before .before)) (sym (c .before .rows-narrow .ensures) ∙ not-true _ (c .if5 .taken)))
 
--- src/input.rt:51:9
+-- src/input.rt:48:9
 bounds-low-requires : tie.Need-bounds-low-requires
 bounds-low-requires c κs = search needs
 
--- src/input.rt:52:9
+-- src/input.rt:49:9
 returns-6 : tie.Need-returns-6
 returns-6 c =
     let a = c .before .before .before .before .before .before .before .before .before .before .before .before .before .before .args in
     sym (check-14 (a .set .now) (a .plan .now) (a .tables) (a .nodes) (c .before .before .before .before .before .before .before .before .before .before .before .before .before .before .pre) (whole (c .before .before .before .before .before .before .before .before .before .before)) (found-all (c .before .before .before .before .before .before .before .before)) (once-all (c .before .before .before .before .before .before)) (seen-all (c .before .before .before .before)) (narrow-all (c .before .before)) (sym (c .before .bounds-low .ensures) ∙ not-true _ (c .if6 .taken)))
 
--- src/input.rt:57:15
+-- src/input.rt:54:15
 need-of-requires : tie.Need-need-of-requires
 need-of-requires c κs =
     let a = c .before .before .before .before .before .before .before .before .before .before .before .before .before .before .args in
     let w = whole (c .before .before .before .before .before .before .before .before .before .before) in
     (whole-all (a .plan .now) w (narrow (tablesOf (a .set .now))) ∙ narrow-all (c .before .before), whole-all (a .plan .now) w (low (tablesOf (a .set .now))) ∙ low-all c)
 
--- src/input.rt:32:1
+-- src/input.rt:29:1
 returns-7 : tie.Need-returns-7
 returns-7 c =
     let a = c .before .before .before .before .before .before .before .before .before .before .before .before .before .before .before .args in

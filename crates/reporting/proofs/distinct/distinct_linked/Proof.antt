@@ -39,37 +39,37 @@ in-row c =
 at : (c : tie.After-hash-row Inv-loop μ-loop) → c .hash-row .result ≡ rowSlot (take (c .before .before .before .before .before .before .before .before .args .w) (drop (c .before .before .before .before .loop .src) (c .before .before .before .before .loop .cells)))
 at c = c .hash-row .ensures .1 ∙ ap rowSlot (sym (part-row (c .before .before .before .before .loop .src) (c .before .before .before .before .before .before .before .before .args .w) (c .before .before .before .before .loop .cells)))
 
--- src/distinct.rt:112:5
+-- src/distinct.rt:121:5
 loop-holds : tie.Need-loop-holds Inv-loop μ-loop
 loop-holds c =
     let a = c .before .before .before .args in
     (sifting-start (firsts (chunk (a .m) (a .w) (a .cells .now))) (a .m) (a .w) (a .cells .now) refl, heads-length (c .before .before .before .pre .1 .0), refl, index-start rowSlot (a .w) (a .cells .now) (a .heads .now) (a .next .now) (c .before .before .before .pre .1 .0))
 
--- src/distinct.rt:113:38
+-- src/distinct.rt:122:38
 add-hash-row : tie.Need-add-hash-row Inv-loop μ-loop
 add-hash-row c = omega (arith, in-row (c) .0, c .before .before .before .before .before .pre .0, c .before .before .before .before .before .good)
 
--- src/distinct.rt:113:26
+-- src/distinct.rt:122:26
 mul-hash-row : tie.Need-mul-hash-row Inv-loop μ-loop
 mul-hash-row c = omega (arith, in-row (c) .0, c .before .before .before .before .before .pre .0, c .before .before .before .before .before .good)
 
--- src/distinct.rt:113:26
+-- src/distinct.rt:122:26
 sub-hash-row : tie.Need-sub-hash-row Inv-loop μ-loop
 sub-hash-row c = omega (arith, in-row (c) .0, c .before .before .before .before .before .pre .0, c .before .before .before .before .before .good)
 
--- src/distinct.rt:113:26
+-- src/distinct.rt:122:26
 part-hash-row-start : tie.Need-part-hash-row-start Inv-loop μ-loop
 part-hash-row-start c = omega (arith, in-row (c .before) .0, c .before .before .before .before .before .before .pre .0, c .before .before .before .before .before .before .good)
 
--- src/distinct.rt:113:26
+-- src/distinct.rt:122:26
 part-hash-row-end : tie.Need-part-hash-row-end Inv-loop μ-loop
 part-hash-row-end c = omega (arith, in-row (c .before) .0, c .before .before .before .before .before .before .pre .0, c .before .before .before .before .before .before .good)
 
--- src/distinct.rt:113:13
+-- src/distinct.rt:122:13
 hash-row-requires : tie.Need-hash-row-requires Inv-loop μ-loop
 hash-row-requires c κs = omega (arith, in-row (c .before .before) .0, c .before .before .before .before .before .before .before .pre .0, c .before .before .before .before .before .before .before .good)
 
--- src/distinct.rt:114:13
+-- src/distinct.rt:123:13
 seen-linked-requires : tie.Need-seen-linked-requires Inv-loop μ-loop
 seen-linked-requires c κs =
     let a = c .before .before .before .before .before .before .before .before .before .before .before .args in
@@ -82,35 +82,35 @@ seen-linked-requires c κs =
       ),
     )
 
--- src/distinct.rt:115:13
+-- src/distinct.rt:124:13
 copy-row-requires : tie.Need-copy-row-requires Inv-loop μ-loop
 copy-row-requires c κs = omega (arith, in-row (c .before .before .before .before .before .before .before .before .before) .0, in-row (c .before .before .before .before .before .before .before .before .before) .1)
 
--- src/distinct.rt:116:13
+-- src/distinct.rt:125:13
 link-requires : tie.Need-link-requires Inv-loop μ-loop
 link-requires c κs = omega (arith, in-row (c .before .before .before .before .before .before .before .before .before .before .before .before .before .before) .3, c .before .before .before .before .before .before .before .before .before .before .before .before .before .before .before .loop .inv .1, c .before .before .before .before .before .before .before .before .before .before .before .before .before .before .before .loop .inv .2, c .before .before .before .before .before .before .before .before .before .before .before .hash-row .ensures .0, c .before .before .before .before .before .before .before .before .before .before .before .before .before .before .before .before .before .before .before .pre)
 
--- src/distinct.rt:117:13
+-- src/distinct.rt:126:13
 add-out : tie.Need-add-out Inv-loop μ-loop
 add-out c = omega (arith, in-row (c .before .before .before .before .before .before .before .before .before .before .before .before .before .before .before .before .before .before .before) .0, in-row (c .before .before .before .before .before .before .before .before .before .before .before .before .before .before .before .before .before .before .before) .1, in-row (c .before .before .before .before .before .before .before .before .before .before .before .before .before .before .before .before .before .before .before) .3, c .before .before .before .before .before .before .before .before .before .before .before .before .before .before .before .before .before .before .before .before, c .before .before .before .before .before .before .before .before .before .before .before .before .before .before .before .before .before .before .before .before .before .before .before .before .good, c .before .before .before .before .before .before .before .before .before .before .before .before .before .before .before .before .before .before .before .before .before .before .before .before .pre .0)
 
--- src/distinct.rt:118:13
+-- src/distinct.rt:127:13
 add-dst : tie.Need-add-dst Inv-loop μ-loop
 add-dst c = omega (arith, in-row (c .before .before .before .before .before .before .before .before .before .before .before .before .before .before .before .before .before .before .before) .0, in-row (c .before .before .before .before .before .before .before .before .before .before .before .before .before .before .before .before .before .before .before) .1, in-row (c .before .before .before .before .before .before .before .before .before .before .before .before .before .before .before .before .before .before .before) .3, c .before .before .before .before .before .before .before .before .before .before .before .before .before .before .before .before .before .before .before .before, c .before .before .before .before .before .before .before .before .before .before .before .before .before .before .before .before .before .before .before .before .before .before .before .before .good, c .before .before .before .before .before .before .before .before .before .before .before .before .before .before .before .before .before .before .before .before .before .before .before .before .pre .0)
 
--- src/distinct.rt:120:9
+-- src/distinct.rt:129:9
 add-i : tie.Need-add-i Inv-loop μ-loop
 add-i c = omega (arith, c .before .before .before .before .before .before .before .before .loop-test .taken, c .before .before .before .before .before .before .before .before .before .before .before .before .before .pre .0)
 
--- src/distinct.rt:121:9
+-- src/distinct.rt:130:9
 add-src : tie.Need-add-src Inv-loop μ-loop
 add-src c = omega (arith, in-row (c .before .before .before .before .before .before .before .before) .0, c .before .before .before .before .before .before .before .before .before, c .before .before .before .before .before .before .before .before .before .before .before .before .before .good, c .before .before .before .before .before .before .before .before .before .before .before .before .before .pre .0, c .before .before .before .before .before .before .before .before .before .loop .inv .0 .long)
 
--- src/distinct.rt:112:5
+-- src/distinct.rt:121:5
 loop-less : tie.Need-loop-less Inv-loop μ-loop
 loop-less c = omega (arith, c .before .before .before .before .before .before .before .before .loop-test .taken)
 
--- src/distinct.rt:112:5
+-- src/distinct.rt:121:5
 loop-again : tie.Need-loop-again Inv-loop μ-loop
 loop-again c =
     let a = c .before .before .before .before .before .before .before .before .before .before .before .before .before .args in
@@ -141,19 +141,19 @@ loop-again c =
     ))
     (j .came)
 
--- src/distinct.rt:96:1
+-- src/distinct.rt:105:1
 same-length : tie.Need-same-length Inv-loop μ-loop
 same-length c = c .before .loop .inv .0 .long
 
--- src/distinct.rt:96:1
+-- src/distinct.rt:105:1
 same-length-2 : tie.Need-same-length-2 Inv-loop μ-loop
 same-length-2 c = c .before .loop .inv .1 ∙ sym (heads-length (c .before .before .before .before .before .pre .1 .0))
 
--- src/distinct.rt:96:1
+-- src/distinct.rt:105:1
 same-length-3 : tie.Need-same-length-3 Inv-loop μ-loop
 same-length-3 c = c .before .loop .inv .2
 
--- src/distinct.rt:96:1
+-- src/distinct.rt:105:1
 returns : tie.Need-returns Inv-loop μ-loop
 returns c =
     let a = c .before .before .before .before .before .args in

@@ -50,19 +50,19 @@ row c =
     let l = c .before .before .before .before .before .loop in
     ap₂ same (chunk-nth (a .k) (a .w) (a .cells .now) (l .h - 1) (inside (c .before .before .before .before) .0) ∙ part-row ((l .h - 1) * a .w) (a .w) (a .cells .now)) (part-row (a .src) (a .w) (a .cells .now)) ∙ sym (c .same-row .ensures)
 
--- src/distinct.rt:64:22
+-- src/distinct.rt:65:22
 mul-wide : tie.Need-mul-wide Inv-loop μ-loop
 mul-wide c = search needs
 
--- src/distinct.rt:64:22
+-- src/distinct.rt:65:22
 shared-slice-read-wide : tie.Need-shared-slice-read-wide Inv-loop μ-loop
 shared-slice-read-wide c = search needs
 
--- src/distinct.rt:64:9
+-- src/distinct.rt:65:9
 wide-requires : tie.Need-wide-requires Inv-loop μ-loop
 wide-requires c κs = search needs
 
--- src/distinct.rt:66:5
+-- src/distinct.rt:67:5
 loop-holds : tie.Need-loop-holds Inv-loop μ-loop
 loop-holds c =
     let a = c .before .before .before .before .before .args in
@@ -75,71 +75,71 @@ loop-holds c =
       omega arith,
     )
 
--- src/distinct.rt:68:13
+-- src/distinct.rt:69:13
 seen-requires : tie.Need-seen-requires Inv-loop μ-loop
 seen-requires c κs = c .before .before .before .before .before .before .before .before .pre .0
 
--- src/distinct.rt:68:13
+-- src/distinct.rt:69:13
 returns : tie.Need-returns Inv-loop μ-loop
 returns c = c .seen .ensures
 
--- src/distinct.rt:70:9
+-- src/distinct.rt:71:9
 add-steps : tie.Need-add-steps Inv-loop μ-loop
 add-steps c = omega (arith, step (c))
 
--- src/distinct.rt:71:17
+-- src/distinct.rt:72:17
 sub-i : tie.Need-sub-i Inv-loop μ-loop
 sub-i c = omega (arith, linked (c .before))
 
--- src/distinct.rt:72:18
+-- src/distinct.rt:73:18
 mul-at : tie.Need-mul-at Inv-loop μ-loop
 mul-at c = omega (arith, inside (c .before) .0, inside (c .before) .1, c .before .before .before .before .before .before .before .before .pre .0, c .before .before .before .before .before .before .before .before .good)
 
--- src/distinct.rt:73:32
+-- src/distinct.rt:74:32
 add-same-row : tie.Need-add-same-row Inv-loop μ-loop
 add-same-row c = omega (arith, inside (c .before) .0, inside (c .before) .1, c .before .before .before .before .before .before .before .before .pre .0, c .before .before .before .before .before .before .before .before .good)
 
--- src/distinct.rt:73:21
+-- src/distinct.rt:74:21
 mul-same-row : tie.Need-mul-same-row Inv-loop μ-loop
 mul-same-row c = omega (arith, inside (c .before) .0, inside (c .before) .1, c .before .before .before .before .before .before .before .before .pre .0, c .before .before .before .before .before .before .before .before .good)
 
--- src/distinct.rt:73:21
+-- src/distinct.rt:74:21
 sub-same-row : tie.Need-sub-same-row Inv-loop μ-loop
 sub-same-row c = omega arith
 
--- src/distinct.rt:73:21
+-- src/distinct.rt:74:21
 part-same-row-start : tie.Need-part-same-row-start Inv-loop μ-loop
 part-same-row-start c = omega (arith, inside (c .before) .0, inside (c .before) .1, c .before .before .before .before .before .before .before .before .pre .0, c .before .before .before .before .before .before .before .before .good)
 
--- src/distinct.rt:73:21
+-- src/distinct.rt:74:21
 part-same-row-end : tie.Need-part-same-row-end Inv-loop μ-loop
 part-same-row-end c = omega (arith, inside (c .before) .0, inside (c .before) .1, c .before .before .before .before .before .before .before .before .pre .0, c .before .before .before .before .before .before .before .before .good)
 
--- src/distinct.rt:73:53
+-- src/distinct.rt:74:53
 add-same-row-2 : tie.Need-add-same-row-2 Inv-loop μ-loop
 add-same-row-2 c = omega (arith, inside (c .before .before) .0, inside (c .before .before) .1, c .before .before .before .before .before .before .before .before .before .pre .0, c .before .before .before .before .before .before .before .before .before .good)
 
--- src/distinct.rt:73:41
+-- src/distinct.rt:74:41
 mul-same-row-2 : tie.Need-mul-same-row-2 Inv-loop μ-loop
 mul-same-row-2 c = omega (arith, inside (c .before .before) .0, inside (c .before .before) .1, c .before .before .before .before .before .before .before .before .before .pre .0, c .before .before .before .before .before .before .before .before .before .good)
 
--- src/distinct.rt:73:41
+-- src/distinct.rt:74:41
 sub-same-row-2 : tie.Need-sub-same-row-2 Inv-loop μ-loop
 sub-same-row-2 c = omega arith
 
--- src/distinct.rt:73:41
+-- src/distinct.rt:74:41
 part-same-row-start-2 : tie.Need-part-same-row-start-2 Inv-loop μ-loop
 part-same-row-start-2 c = omega (arith, inside (c .before .before) .0, inside (c .before .before) .1, c .before .before .before .before .before .before .before .before .before .pre .0, c .before .before .before .before .before .before .before .before .before .good)
 
--- src/distinct.rt:73:41
+-- src/distinct.rt:74:41
 part-same-row-end-2 : tie.Need-part-same-row-end-2 Inv-loop μ-loop
 part-same-row-end-2 c = omega (arith, inside (c .before .before) .0, inside (c .before .before) .1, c .before .before .before .before .before .before .before .before .before .pre .0, c .before .before .before .before .before .before .before .before .before .good)
 
--- src/distinct.rt:73:12
+-- src/distinct.rt:74:12
 same-row-requires : tie.Need-same-row-requires Inv-loop μ-loop
 same-row-requires c κs = let a = c .before .before .before .before .before .before .before .before .before .before .args in omega (arith, part-length ((c .before .before .before .before .loop .h - 1) * a .w) (a .w) (a .cells .now) (inside (c .before .before .before) .1), part-length (a .src) (a .w) (a .cells .now) (c .before .before .before .before .before .before .before .before .before .before .pre .0 .1))
 
--- src/distinct.rt:74:13
+-- src/distinct.rt:75:13
 returns-2 : tie.Need-returns-2 Inv-loop μ-loop
 returns-2 c =
     let a = c .before .before .before .before .before .before .before .before .before .before .before .before .args in
@@ -147,26 +147,26 @@ returns-2 c =
     let Q : ℕ → Bool = λ i. same (nth (chunk (a .k) (a .w) (a .cells .now)) i) (take (a .w) (drop (a .src) (a .cells .now))) in
     sym (l .inv .1 ∙ ap (any Q) (walk-next (a .k) (a .next .now) (l .h) (l .inv .0) (linked (c .before .before .before .before .before)) (getD (a .next .now) (l .h - 1) 0) refl) ∙ ap (λ (t : Bool). t || any Q (chain (suc (a .k)) (a .next .now) (getD (a .next .now) (l .h - 1) 0))) (row (c .before) ∙ c .if2 .taken))
 
--- src/distinct.rt:76:18
+-- src/distinct.rt:77:18
 mul-wide-2 : tie.Need-mul-wide-2 Inv-loop μ-loop
 mul-wide-2 c = omega (arith, inside (c .before .before .before .before .before) .0, c .before .before .before .before .before .before .before .before .before .before .before .before .pre .1 .1 .0, c .before .before .before .before .before .before .before .before .before .before .before .before .good)
 
--- src/distinct.rt:76:18
+-- src/distinct.rt:77:18
 shared-slice-read-wide-2 : tie.Need-shared-slice-read-wide-2 Inv-loop μ-loop
 shared-slice-read-wide-2 c = omega (arith, inside (c .before .before .before .before .before .before) .0, c .before .before .before .before .before .before .before .before .before .before .before .before .before .pre .1 .1 .0, c .before .before .before .before .before .before .before .before .before .before .before .before .before .good)
 
--- src/distinct.rt:76:9
+-- src/distinct.rt:77:9
 wide-requires-2 : tie.Need-wide-requires-2 Inv-loop μ-loop
 wide-requires-2 c κs = omega (arith, inside (c .before .before .before .before .before .before) .0, c .before .before .before .before .before .before .before .before .before .before .before .before .before .pre .1 .1 .0, c .before .before .before .before .before .before .before .before .before .before .before .before .before .good)
 
--- src/distinct.rt:66:5
+-- src/distinct.rt:67:5
 loop-less : tie.Need-loop-less Inv-loop μ-loop
 loop-less c =
     let a = c .before .before .before .before .before .before .before .before .before .before .before .before .before .before .args in
     let l = c .before .before .before .before .before .before .before .before .loop in
     walk-less (a .k) (a .next .now) (l .h) (l .inv .0) (linked (c .before .before .before .before .before .before .before)) (c .wide2 .result) (c .wide2 .ensures)
 
--- src/distinct.rt:66:5
+-- src/distinct.rt:67:5
 loop-again : tie.Need-loop-again Inv-loop μ-loop
 loop-again c =
     let a = c .before .before .before .before .before .before .before .before .before .before .before .before .before .before .args in
@@ -178,7 +178,7 @@ loop-again c =
       step (c .before .before .before .before .before .before),
     )
 
--- src/distinct.rt:49:1
+-- src/distinct.rt:50:1
 returns-3 : tie.Need-returns-3 Inv-loop μ-loop
 returns-3 c =
     let a = c .before .before .before .before .before .before .before .args in

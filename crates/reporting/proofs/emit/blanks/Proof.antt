@@ -13,41 +13,41 @@ Inv-loop cells₀ at n i₀ cells i = (i ≤ n) × (length cells ≡ length cell
 abbrev μ-loop : tie.MeasureT-loop
 μ-loop cells₀ at n i₀ cells i = n - i
 
--- src/emit.rt:22:5
+-- src/emit.rt:32:5
 loop-holds : tie.Need-loop-holds Inv-loop μ-loop
 loop-holds c = (omega arith, refl, written-none (c .args .at) (c .args .cells .now))
 
--- src/emit.rt:23:15
+-- src/emit.rt:33:15
 add-cells : tie.Need-add-cells Inv-loop μ-loop
 add-cells c = omega arith
 
--- src/emit.rt:23:9
+-- src/emit.rt:33:9
 mul-cells : tie.Need-mul-cells Inv-loop μ-loop
 mul-cells c = omega arith
 
--- src/emit.rt:23:9
+-- src/emit.rt:33:9
 slice-write-cells : tie.Need-slice-write-cells Inv-loop μ-loop
 slice-write-cells c = omega arith
 
--- src/emit.rt:24:9
+-- src/emit.rt:34:9
 add-i : tie.Need-add-i Inv-loop μ-loop
 add-i c = omega arith
 
--- src/emit.rt:22:5
+-- src/emit.rt:32:5
 loop-less : tie.Need-loop-less Inv-loop μ-loop
 loop-less c = omega arith
 
--- src/emit.rt:22:5
+-- src/emit.rt:32:5
 loop-again : tie.Need-loop-again Inv-loop μ-loop
 loop-again c =
     let l = c .before .loop in
     (omega arith, simp length-set (omega arith), written-as (replicate-append-replicate (l .i) 1 0) (written-more 0 (l .inv .2) (omega arith)))
 
--- src/emit.rt:17:1
+-- src/emit.rt:27:1
 same-length : tie.Need-same-length Inv-loop μ-loop
 same-length c = c .before .loop .inv .1
 
--- src/emit.rt:17:1
+-- src/emit.rt:27:1
 returns : tie.Need-returns Inv-loop μ-loop
 returns c =
     let e : c .before .loop .i ≡ c .before .before .args .n = omega arith in

@@ -18,7 +18,7 @@ one-row c =
     let room : a .dst + max 1 (a .k) * n ≤ a .src = c .before .before .before .pre .0 in
     omega (arith, ap (λ (m : ℕ). m * n) e, one-mul n)
 
--- src/emit.rt:69:9
+-- src/emit.rt:79:9
 join-at-requires : tie.Need-join-at-requires
 join-at-requires c κs =
     let a = c .before .before .before .before .args in
@@ -26,33 +26,33 @@ join-at-requires c κs =
     let room = rw e at (c .before .before .before .before .pre .0) in
     omega arith
 
--- src/emit.rt:70:9
+-- src/emit.rt:80:9
 same-length : tie.Need-same-length
 same-length c = search needs
 
--- src/emit.rt:70:9
+-- src/emit.rt:80:9
 returns : tie.Need-returns
 returns c =
     let a = c .before .before .before .before .before .before .before .args in
     each-joined (a .jds .now) (a .src) (a .w) (a .dst) (a .behind) (a .cells .now) (c .before .before .join-at .last .0) (a .k) (c .before .before .before .before .if1 .taken) (c .before .before .join-at .ensures)
 
--- src/emit.rt:72:5
+-- src/emit.rt:82:5
 copy-row-requires : tie.Need-copy-row-requires
 copy-row-requires c κs = omega (arith, one-row (c .before), c .before .before .before .before .pre)
 
--- src/emit.rt:73:19
+-- src/emit.rt:83:19
 add-blanks : tie.Need-add-blanks
 add-blanks c = omega (arith, one-row (c .before .before .before .before .before), c .before .before .before .before .before .before .before .before .pre)
 
--- src/emit.rt:73:5
+-- src/emit.rt:83:5
 blanks-requires : tie.Need-blanks-requires
 blanks-requires c κs = omega (arith, one-row (c .before .before .before .before .before), c .before .before .before .before .before .before .before .before .pre, c .before .before .before .copy-row .kept .0)
 
--- src/emit.rt:55:1
+-- src/emit.rt:65:1
 same-length-2 : tie.Need-same-length-2
 same-length-2 c = search needs
 
--- src/emit.rt:55:1
+-- src/emit.rt:65:1
 returns-2 : tie.Need-returns-2
 returns-2 c =
     let a = c .before .before .before .before .before .before .before .before .before .before .before .args in

@@ -4,39 +4,39 @@ use borrow.Author.Needs.{needs}
 use Rattle.reporting.proofs.emit.join_at.Statement.{statement}
 use Rattle.reporting.proofs.emit.join_at.Tie as tie
 
--- src/emit.rt:51:15
+-- src/emit.rt:61:15
 mul-join-rows : tie.Need-mul-join-rows
 mul-join-rows c = search needs
 
--- src/emit.rt:51:15
+-- src/emit.rt:61:15
 sub-join-rows : tie.Need-sub-join-rows
 sub-join-rows c = search needs
 
--- src/emit.rt:51:15
+-- src/emit.rt:61:15
 part-join-rows-start : tie.Need-part-join-rows-start
 part-join-rows-start c = search needs
 
--- src/emit.rt:51:15
+-- src/emit.rt:61:15
 part-join-rows-end : tie.Need-part-join-rows-end
 part-join-rows-end c = search needs
 
--- src/emit.rt:51:34
+-- src/emit.rt:61:34
 sub-join-rows-2 : tie.Need-sub-join-rows-2
 sub-join-rows-2 c = search needs
 
--- src/emit.rt:51:48
+-- src/emit.rt:61:48
 sub-join-rows-3 : tie.Need-sub-join-rows-3
 sub-join-rows-3 c = search needs
 
--- src/emit.rt:51:5
+-- src/emit.rt:61:5
 join-rows-requires : tie.Need-join-rows-requires
 join-rows-requires c κs = search needs
 
--- src/emit.rt:47:1
+-- src/emit.rt:57:1
 same-length : tie.Need-same-length
 same-length c = search needs
 
--- src/emit.rt:47:1
+-- src/emit.rt:57:1
 returns : tie.Need-returns
 returns c =
     let a = c .before .before .before .before .before .args in

@@ -24,45 +24,45 @@ in-row c =
     let room = kept-room p (c .loop-test .taken) in
     (omega (arith, building-row p (c .loop-test .taken)), omega (arith, p .src-at), room)
 
--- src/emit.rt:37:5
+-- src/emit.rt:47:5
 loop-holds : tie.Need-loop-holds Inv-loop μ-loop
 loop-holds c =
     let a = c .before .args in
     (building-start (a .cells .now) (sym (map-single (λ r. take (a .w) (drop (a .src) (a .cells .now)) ++ r) (chunk (a .k) (a .v) (drop (a .behind) (a .cells .now))))), refl, refl)
 
--- src/emit.rt:38:9
+-- src/emit.rt:48:9
 copy-row-requires : tie.Need-copy-row-requires Inv-loop μ-loop
 copy-row-requires c κs = omega (arith, in-row (c .before) .0, in-row (c .before) .1, in-row (c .before) .2)
 
--- src/emit.rt:39:31
+-- src/emit.rt:49:31
 add-copy-row : tie.Need-add-copy-row Inv-loop μ-loop
 add-copy-row c = omega (arith, in-row (c .before .before .before .before .before) .0, in-row (c .before .before .before .before .before) .1, in-row (c .before .before .before .before .before) .2)
 
--- src/emit.rt:39:9
+-- src/emit.rt:49:9
 copy-row-requires-2 : tie.Need-copy-row-requires-2 Inv-loop μ-loop
 copy-row-requires-2 c κs = omega (arith, in-row (c .before .before .before .before .before) .0, in-row (c .before .before .before .before .before) .1, in-row (c .before .before .before .before .before) .2, c .before .before .before .copy-row .kept .0)
 
--- src/emit.rt:40:9
+-- src/emit.rt:50:9
 add-i : tie.Need-add-i Inv-loop μ-loop
 add-i c = omega (arith, c .before .before .before .before .before .before .before .before .loop-test .taken)
 
--- src/emit.rt:41:9
+-- src/emit.rt:51:9
 add-from : tie.Need-add-from Inv-loop μ-loop
 add-from c = omega (arith, in-row (c .before .before .before .before .before .before .before .before) .0, in-row (c .before .before .before .before .before .before .before .before) .1, in-row (c .before .before .before .before .before .before .before .before) .2)
 
--- src/emit.rt:42:15
+-- src/emit.rt:52:15
 add-to : tie.Need-add-to Inv-loop μ-loop
 add-to c = omega (arith, in-row (c .before .before .before .before .before .before .before .before) .0, in-row (c .before .before .before .before .before .before .before .before) .1, in-row (c .before .before .before .before .before .before .before .before) .2)
 
--- src/emit.rt:42:9
+-- src/emit.rt:52:9
 add-to-2 : tie.Need-add-to-2 Inv-loop μ-loop
 add-to-2 c = omega (arith, in-row (c .before .before .before .before .before .before .before .before) .0, in-row (c .before .before .before .before .before .before .before .before) .1, in-row (c .before .before .before .before .before .before .before .before) .2)
 
--- src/emit.rt:37:5
+-- src/emit.rt:47:5
 loop-less : tie.Need-loop-less Inv-loop μ-loop
 loop-less c = omega (arith, c .before .before .before .before .before .before .before .before .loop-test .taken)
 
--- src/emit.rt:37:5
+-- src/emit.rt:47:5
 loop-again : tie.Need-loop-again Inv-loop μ-loop
 loop-again c =
     let a = c .before .before .before .before .before .before .before .before .before .before .before .args in
@@ -77,11 +77,11 @@ loop-again c =
     written-as (ap (λ x. take (a .w) x ++ take (a .v) (drop (l .from) (l .cells))) from) (written-joined (l .cells) d e (a .src) (l .from) (l .to) (a .w) (a .v) (c .before .before .before .before .before .before .copy-row .ensures) (c .before .before .copy-row2 .ensures) (c .before .before .before .before .before .before .copy-row .kept .0) (omega arith) (omega arith) (omega arith) (omega arith)) in
     (kept-turn p h (take (a .w) (drop (a .src) (a .cells .now)) ++ take (a .v) (drop (l .from) (l .cells))) e (l .i + 1) (l .to + (a .w + a .v)) refl g (omega arith) refl refl, c .before .before .copy-row2 .kept .0 ∙ c .before .before .before .before .before .before .copy-row .kept .0 ∙ l .inv .1, written-rest g (a .k * (a .w + a .v)) room ∙ l .inv .2)
 
--- src/emit.rt:29:1
+-- src/emit.rt:39:1
 same-length : tie.Need-same-length Inv-loop μ-loop
 same-length c = c .before .loop .inv .1
 
--- src/emit.rt:29:1
+-- src/emit.rt:39:1
 returns : tie.Need-returns Inv-loop μ-loop
 returns c =
     let a = c .before .before .before .args in

@@ -36,33 +36,33 @@ kept c =
     ∙ ap (flip (eqb (a .node .kind) 7)) (sym (c .any-linked .ensures))
     ∙ sym (flip-differs (eqb (a .node .kind) 7) (c .any-linked .result))
 
--- src/emit.rt:185:13
+-- src/emit.rt:187:13
 gather-linked-requires : tie.Need-gather-linked-requires
 gather-linked-requires c κs = ((found-inside (c .before .before .before .before .before .before .before), c .before .before .before .before .before .before .before .pre .1 .0 .1, c .before .before .before .before .before .before .before .pre .0 .1), (c .before .before .before .before .before .before .before .pre .1 .1 .0 .2, c .before .before .before .before .before .before .before .pre .1 .1 .1))
 
--- src/emit.rt:186:9
+-- src/emit.rt:188:9
 write-with-requires : tie.Need-write-with-requires
 write-with-requires c κs =
     let a = c .before .before .before .before .before .before .before .before .before .args in
     let p = c .before .before .before .before .before .before .before .before .before .pre .1 .0 in
     (gathers (a .node) (a .ids .now) (a .jds .now) (a .src) (a .dst) (a .behind) (a .k) (a .cells .now) (inr (c .before .before .before .if1 .taken)) .1 (p .0), omega (arith, p .0 .apart, p .1))
 
--- src/emit.rt:187:9
+-- src/emit.rt:189:9
 same-length : tie.Need-same-length
 same-length c = search needs
 
--- src/emit.rt:187:9
+-- src/emit.rt:189:9
 returns : tie.Need-returns
 returns c =
     let a = c .before .before .before .before .before .before .before .before .before .before .before .before .args in
     cell-given (a .node) (a .found) (a .ids .now) (a .jds .now) (a .src) (a .dst) (a .behind) (a .k) (a .cells .now) (c .before .before .before .before .before .before .before .before .before .before .before .before .pre .1 .0 .0)
     (inr (c .before .before .before .before .before .before .if1 .taken)) (c .before .before .before .before .gather-linked .result) (c .before .before .write-with .last .0) (c .before .before .before .before .gather-linked .ensures) (c .before .before .write-with .ensures)
 
--- src/emit.rt:189:8
+-- src/emit.rt:191:8
 any-linked-requires : tie.Need-any-linked-requires
 any-linked-requires c κs = ((found-inside (c .before .before .before .before .before .before .before), c .before .before .before .before .before .before .before .pre .1 .0 .1), (c .before .before .before .before .before .before .before .pre .1 .1 .0 .2, c .before .before .before .before .before .before .before .pre .1 .1 .1))
 
--- src/emit.rt:190:9
+-- src/emit.rt:192:9
 copy-row-requires : tie.Need-copy-row-requires
 copy-row-requires c κs =
     let a = c .before .before .before .before .before .before .before .before .before .before .args in
@@ -70,11 +70,11 @@ copy-row-requires c κs =
     let (low, high) = keeping-kind (c .before .before .before .before) in
     omega (arith, p .0 .apart, p .1, keeping (a .node) (a .ids .now) (a .jds .now) (a .src) (a .dst) (a .behind) (a .k) (a .cells .now) low (omega arith) .0 (p .0))
 
--- src/emit.rt:191:9
+-- src/emit.rt:193:9
 same-length-2 : tie.Need-same-length-2
 same-length-2 c = search needs
 
--- src/emit.rt:191:9
+-- src/emit.rt:193:9
 returns-2 : tie.Need-returns-2
 returns-2 c =
     let a = c .before .before .before .before .before .before .before .before .before .before .before .before .before .args in
@@ -83,11 +83,11 @@ returns-2 c =
     kept-given (a .node) (a .found) (a .ids .now) (a .jds .now) (a .src) (a .dst) (a .behind) (a .k) (a .cells .now) (p .0) low (omega arith) (c .before .before .copy-row .last .0)
     (kept (c .before .before .before .before .before) ∙ c .before .before .before .before .if2 .taken) (omega (arith, p .1)) (c .before .before .copy-row .ensures)
 
--- src/emit.rt:160:1
+-- src/emit.rt:162:1
 same-length-3 : tie.Need-same-length-3
 same-length-3 c = search needs
 
--- src/emit.rt:160:1
+-- src/emit.rt:162:1
 returns-3 : tie.Need-returns-3
 returns-3 c =
     let a = c .before .before .before .before .before .before .before .before .before .args in

@@ -7,27 +7,27 @@ use borrow.Author.Needs.{needs}
 use Rattle.reporting.proofs.emit.write_with.Statement.{statement}
 use Rattle.reporting.proofs.emit.write_with.Tie as tie
 
--- src/emit.rt:112:5
+-- src/emit.rt:114:5
 copy-row-requires : tie.Need-copy-row-requires
 copy-row-requires c κs = search needs
 
--- src/emit.rt:113:11
+-- src/emit.rt:115:11
 add-cells : tie.Need-add-cells
 add-cells c = search needs
 
--- src/emit.rt:113:5
+-- src/emit.rt:115:5
 mul-cells : tie.Need-mul-cells
 mul-cells c = search needs
 
--- src/emit.rt:113:5
+-- src/emit.rt:115:5
 slice-write-cells : tie.Need-slice-write-cells
 slice-write-cells c = search needs
 
--- src/emit.rt:108:1
+-- src/emit.rt:110:1
 same-length : tie.Need-same-length
 same-length c = search needs
 
--- src/emit.rt:108:1
+-- src/emit.rt:110:1
 returns : tie.Need-returns
 returns c =
     let a = c .before .before .before .before .before .args in

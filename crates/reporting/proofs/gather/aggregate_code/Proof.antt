@@ -8,22 +8,22 @@ use Rattle.reporting.proofs.gather.aggregate_code.Tie as tie
 use Rattle.reporting.proofs.gather.aggregate_code.Reads as reads
 use Rattle.reporting.proofs.gather.aggregate_code.Lts as lts
 
--- src/gather.rt:152:9
+-- src/gather.rt:158:9
 returns : tie.Need-returns
 unfolding hasAggregate
 returns c = let k = c .before .args .node .kind in sym (aggregate-of (c .before .args .node) ∙ rw (le-ltb 9 k (omega arith)))
 
--- src/gather.rt:155:9
+-- src/gather.rt:161:9
 returns-2 : tie.Need-returns-2
 unfolding hasAggregate
 returns-2 c = let k = c .before .before .args .node .kind in sym (aggregate-of (c .before .before .args .node) ∙ rw (c .if2 .taken))
 
--- src/gather.rt:158:9
+-- src/gather.rt:164:9
 returns-3 : tie.Need-returns-3
 unfolding hasAggregate
 returns-3 c = let k = c .before .before .before .args .node .kind in sym (aggregate-of (c .before .before .before .args .node) ∙ rw (lt-ltb 9 k (omega arith), le-ltb k 14 (omega arith)))
 
--- src/gather.rt:147:1
+-- src/gather.rt:153:1
 returns-4 : tie.Need-returns-4
 unfolding hasAggregate
 returns-4 c = let k = c .before .before .before .args .node .kind in sym (aggregate-of (c .before .before .before .args .node) ∙ rw (lt-ltb 9 k (omega arith), lt-ltb k 14 (omega arith), ne-eqb k 11 (c .before .if2 .left)))

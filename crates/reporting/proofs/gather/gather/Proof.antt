@@ -36,11 +36,11 @@ inside c =
     let a = c .before .before .before .before .args in
     omega (arith, turns (a .k) (a .v) (c .before .loop .i) (c .loop-test .taken), c .before .loop .inv .1, c .before .before .before .before .pre .1)
 
--- src/gather.rt:180:9
+-- src/gather.rt:182:9
 none-requires : tie.Need-none-requires Inv-loop μ-loop
 none-requires c κs = tt
 
--- src/gather.rt:183:5
+-- src/gather.rt:185:5
 loop-holds : tie.Need-loop-holds Inv-loop μ-loop
 loop-holds c =
     let a = c .before .before .args in
@@ -52,21 +52,21 @@ loop-holds c =
       tallying-start (a .found) l (rows (a .k)) (rows (a .k - 0)) (c .none .result) (ap (λ (n : ℕ). foundCells (a .found) l (rows n)) e) (c .none .ensures .0) (c .none .ensures .1),
     )
 
--- src/gather.rt:184:12
+-- src/gather.rt:186:12
 row-meets-requires : tie.Need-row-meets-requires Inv-loop μ-loop
 row-meets-requires c κs =
     let a = c .before .before .before .before .args in
     let n = length (a .cells .now) in
     found-wider (a .found) (n - a .src) (a .v) (n - a .src) (n - c .before .loop .at) (c .before .before .before .before .pre .0) (omega arith) (omega (arith, inside (c)))
 
--- src/gather.rt:185:31
+-- src/gather.rt:187:31
 side-cell-requires : tie.Need-side-cell-requires Inv-loop μ-loop
 side-cell-requires c κs =
     let a = c .before .before .before .before .before .before .args in
     let n = length (a .cells .now) in
     side-wider (a .found .measured) (n - a .src) (a .v) (n - a .src) (n - c .before .before .before .loop .at) (c .before .before .before .before .before .before .pre .0 .measured) (omega arith) (omega (arith, inside (c .before .before)))
 
--- src/gather.rt:185:13
+-- src/gather.rt:187:13
 add-requires : tie.Need-add-requires Inv-loop μ-loop
 add-requires c κs =
     let a = c .before .before .before .before .before .before .before .args in
@@ -76,19 +76,19 @@ add-requires c κs =
       l .inv .2 .bounded,
     )
 
--- src/gather.rt:187:9
+-- src/gather.rt:189:9
 add-i : tie.Need-add-i Inv-loop μ-loop
 add-i c = omega arith
 
--- src/gather.rt:188:9
+-- src/gather.rt:190:9
 add-at : tie.Need-add-at Inv-loop μ-loop
 add-at c = omega (arith, inside (c .before .before), c .before .before .before .before .before .before .good)
 
--- src/gather.rt:183:5
+-- src/gather.rt:185:5
 loop-less : tie.Need-loop-less Inv-loop μ-loop
 loop-less c = omega arith
 
--- src/gather.rt:183:5
+-- src/gather.rt:185:5
 loop-again : tie.Need-loop-again Inv-loop μ-loop
 loop-again c =
     let a = c .before .before .before .before .before .before .args in
@@ -109,7 +109,7 @@ loop-again c =
           (c .if1 .came),
     )
 
--- src/gather.rt:190:5
+-- src/gather.rt:192:5
 result-requires : tie.Need-result-requires Inv-loop μ-loop
 result-requires c κs =
     let a = c .before .before .before .before .args in
@@ -119,7 +119,7 @@ result-requires c κs =
       l .inv .2 .bounded,
     )
 
--- src/gather.rt:168:1
+-- src/gather.rt:170:1
 returns : tie.Need-returns Inv-loop μ-loop
 returns c =
     let a = c .before .before .before .before .before .args in

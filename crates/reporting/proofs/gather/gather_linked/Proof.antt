@@ -61,27 +61,27 @@ unmet c =
     let off = ap isNumber (sym (key-is (c .before .before .before .before .before .before .before))) ∙ sym (c .before .is-number .ensures) ∙ not-true (c .before .is-number .result) (c .if1 .taken) in
     tallying-start (a .found) left all [] (c .before .before .before .none .result) (none-met (a .found) left (a .left) (a .right) (c .before .before .before .before .before .before .before .pre .1 .0) off all .1 ∙ sym (cells-none (a .found) left)) (c .before .before .before .none .ensures .0) (c .before .before .before .none .ensures .1)
 
--- src/gather.rt:211:9
+-- src/gather.rt:213:9
 none-requires : tie.Need-none-requires Inv-loop μ-loop
 none-requires c κs = tt
 
--- src/gather.rt:212:21
+-- src/gather.rt:214:21
 add-key : tie.Need-add-key Inv-loop μ-loop
 add-key c = omega (arith, key-inside (c .before .before .before .before), c .before .before .before .before .good)
 
--- src/gather.rt:212:15
+-- src/gather.rt:214:15
 mul-key : tie.Need-mul-key Inv-loop μ-loop
 mul-key c = omega (arith, key-inside (c .before .before .before .before), c .before .before .before .before .good)
 
--- src/gather.rt:212:15
+-- src/gather.rt:214:15
 shared-slice-read-key : tie.Need-shared-slice-read-key Inv-loop μ-loop
 shared-slice-read-key c = omega (arith, key-inside (c .before .before .before .before .before), c .before .before .before .before .before .good)
 
--- src/gather.rt:213:9
+-- src/gather.rt:215:9
 is-number-requires : tie.Need-is-number-requires Inv-loop μ-loop
 is-number-requires c κs = tt
 
--- src/gather.rt:214:9
+-- src/gather.rt:216:9
 result-requires : tie.Need-result-requires Inv-loop μ-loop
 result-requires c κs =
     let a = c .before .before .before .before .before .before .before .args in
@@ -91,30 +91,30 @@ result-requires c κs =
       c .before .before .before .none .ensures .1,
     )
 
--- src/gather.rt:214:9
+-- src/gather.rt:216:9
 returns : tie.Need-returns Inv-loop μ-loop
 returns c =
     let a = c .before .before .before .before .before .before .before .before .args in
     let cells = a .cells .now in
     tallying-done (a .found) (drop (a .src) cells) (rowsFrom (a .behind) (a .k) (a .v) cells) [] (c .before .before .before .before .none .result) (unmet (c .before)) refl (c .result .result) (c .result .ensures)
 
--- src/gather.rt:216:28
+-- src/gather.rt:218:28
 bucket-requires : tie.Need-bucket-requires Inv-loop μ-loop
 bucket-requires c κs = tt
 
--- src/gather.rt:216:22
+-- src/gather.rt:218:22
 mul-wide : tie.Need-mul-wide Inv-loop μ-loop
 mul-wide c = omega (arith, c .bucket .ensures .0, c .before .before .before .before .before .before .before .before .pre .1 .1 .all-heads, c .before .before .before .before .before .before .before .before .good)
 
--- src/gather.rt:216:22
+-- src/gather.rt:218:22
 shared-slice-read-wide : tie.Need-shared-slice-read-wide Inv-loop μ-loop
 shared-slice-read-wide c = omega (arith, c .before .bucket .ensures .0, c .before .before .before .before .before .before .before .before .before .pre .1 .1 .all-heads, c .before .before .before .before .before .before .before .before .before .good)
 
--- src/gather.rt:216:9
+-- src/gather.rt:218:9
 wide-requires : tie.Need-wide-requires Inv-loop μ-loop
 wide-requires c κs = omega (arith, c .before .bucket .ensures .0, c .before .before .before .before .before .before .before .before .before .pre .1 .1 .all-heads, c .before .before .before .before .before .before .before .before .before .good)
 
--- src/gather.rt:217:5
+-- src/gather.rt:219:5
 loop-holds : tie.Need-loop-holds Inv-loop μ-loop
 loop-holds c =
     let a = c .before .before .before .before .before .before .before .before .before .before .args in
@@ -128,19 +128,19 @@ loop-holds c =
       tallying-start (a .found) left all (onChain (a .k) all (a .next .now) h) (c .before .before .before .before .before .before .none .result) same (c .before .before .before .before .before .before .none .ensures .0) (c .before .before .before .before .before .before .none .ensures .1),
     )
 
--- src/gather.rt:218:17
+-- src/gather.rt:220:17
 sub-i : tie.Need-sub-i Inv-loop μ-loop
 sub-i c = omega arith
 
--- src/gather.rt:219:27
+-- src/gather.rt:221:27
 mul-at : tie.Need-mul-at Inv-loop μ-loop
 mul-at c = omega (arith, inside (c) .1, c .before .before .before .before .before .before .before .before .before .before .before .before .good)
 
--- src/gather.rt:219:18
+-- src/gather.rt:221:18
 add-at : tie.Need-add-at Inv-loop μ-loop
 add-at c = omega (arith, inside (c) .1, c .before .before .before .before .before .before .before .before .before .before .before .before .good)
 
--- src/gather.rt:220:12
+-- src/gather.rt:222:12
 linked-meets-requires : tie.Need-linked-meets-requires Inv-loop μ-loop
 linked-meets-requires c κs =
     let a = c .before .before .before .before .before .before .before .before .before .before .before .before .args in
@@ -150,7 +150,7 @@ linked-meets-requires c κs =
       (key-is (c .before .before .before .before .before .before .before .before .before .before .before .before), sym (c .before .before .before .before .before .before .is-number .ensures) ∙ not-false (c .before .before .before .before .before .before .is-number .result) (c .before .before .before .before .before .if1 .left)),
     )
 
--- src/gather.rt:221:31
+-- src/gather.rt:223:31
 side-cell-requires : tie.Need-side-cell-requires Inv-loop μ-loop
 side-cell-requires c κs =
     let a = c .before .before .before .before .before .before .before .before .before .before .before .before .before .before .args in
@@ -158,7 +158,7 @@ side-cell-requires c κs =
     let at = a .behind + (c .before .before .before .loop .h - 1) * a .v in
     side-wider (a .found .measured) (n - a .src) (a .v) (n - a .src) (n - at) (c .before .before .before .before .before .before .before .before .before .before .before .before .before .before .pre .0 .0 .measured) (omega arith) (omega (arith, inside (c .before .before) .1))
 
--- src/gather.rt:221:13
+-- src/gather.rt:223:13
 add-requires : tie.Need-add-requires Inv-loop μ-loop
 add-requires c κs =
     let a = c .before .before .before .before .before .before .before .before .before .before .before .before .before .before .before .args in
@@ -170,26 +170,26 @@ add-requires c κs =
     let room = tallying-room (a .found) (drop (a .src) cells) all (onChain (a .k) all (a .next .now) (l .h)) (l .tally) (l .inv .1) (length cells - a .src) (a .v) (c .before .before .before .before .before .before .before .before .before .before .before .before .before .before .before .pre .0 .0) (onChain (a .k) all (a .next .now) h) (drop (a .behind + (l .h - 1) * a .v) cells) first (sym (c .before .before .linked-meets .ensures) ∙ c .before .if2 .taken) in
     (omega (arith, c .before .before .before .before .before .before .before .before .before .before .before .before .before .before .before .pre .0 .2, length-chunk (a .k) (a .v) (drop (a .behind) cells), room), l .inv .1 .bounded)
 
--- src/gather.rt:223:18
+-- src/gather.rt:225:18
 mul-wide-2 : tie.Need-mul-wide-2 Inv-loop μ-loop
 mul-wide-2 c = omega (arith, inside (c .before .before) .0, c .before .before .before .before .before .before .before .before .before .before .before .before .before .before .pre .1 .1 .all-next, c .before .before .before .before .before .before .before .before .before .before .before .before .before .before .good)
 
--- src/gather.rt:223:18
+-- src/gather.rt:225:18
 shared-slice-read-wide-2 : tie.Need-shared-slice-read-wide-2 Inv-loop μ-loop
 shared-slice-read-wide-2 c = omega (arith, inside (c .before .before .before) .0, c .before .before .before .before .before .before .before .before .before .before .before .before .before .before .before .pre .1 .1 .all-next, c .before .before .before .before .before .before .before .before .before .before .before .before .before .before .before .good)
 
--- src/gather.rt:223:9
+-- src/gather.rt:225:9
 wide-requires-2 : tie.Need-wide-requires-2 Inv-loop μ-loop
 wide-requires-2 c κs = omega (arith, inside (c .before .before .before) .0, c .before .before .before .before .before .before .before .before .before .before .before .before .before .before .before .pre .1 .1 .all-next, c .before .before .before .before .before .before .before .before .before .before .before .before .before .before .before .good)
 
--- src/gather.rt:217:5
+-- src/gather.rt:219:5
 loop-less : tie.Need-loop-less Inv-loop μ-loop
 loop-less c =
     let a = c .before .before .before .before .before .before .before .before .before .before .before .before .before .before .before .before .args in
     let l = c .before .before .before .before .before .loop in
     walk-less (a .k) (a .next .now) (l .h) (l .inv .0) (c .before .before .before .before .loop-test .taken) (c .wide2 .result) (c .wide2 .ensures)
 
--- src/gather.rt:217:5
+-- src/gather.rt:219:5
 loop-again : tie.Need-loop-again Inv-loop μ-loop
 loop-again c =
     let a = c .before .before .before .before .before .before .before .before .before .before .before .before .before .before .before .before .args in
@@ -211,7 +211,7 @@ loop-again c =
           (c .before .before .if2 .came),
     )
 
--- src/gather.rt:225:5
+-- src/gather.rt:227:5
 result-requires-2 : tie.Need-result-requires-2 Inv-loop μ-loop
 result-requires-2 c κs =
     let a = c .before .before .before .before .before .before .before .before .before .before .before .before .args in
@@ -222,7 +222,7 @@ result-requires-2 c κs =
       l .inv .1 .bounded,
     )
 
--- src/gather.rt:194:1
+-- src/gather.rt:196:1
 returns-2 : tie.Need-returns-2 Inv-loop μ-loop
 returns-2 c =
     let a = c .before .before .before .before .before .before .before .before .before .before .before .before .before .args in

@@ -12,15 +12,15 @@ use Rattle.reporting.proofs.group.give_linked.Reads as reads
 use Rattle.reporting.proofs.group.give_linked.Lts as lts
 use Rattle.reporting.proofs.gather.gather_linked.Reads as gather-linked-reads
 
--- src/group.rt:119:5
+-- src/group.rt:95:5
 mul-cells : tie.Need-mul-cells
 mul-cells c = search needs
 
--- src/group.rt:119:5
+-- src/group.rt:95:5
 slice-write-cells : tie.Need-slice-write-cells
 slice-write-cells c = search needs
 
--- src/group.rt:120:9
+-- src/group.rt:96:9
 gather-linked-requires : tie.Need-gather-linked-requires
 gather-linked-requires c κs =
     let a = c .before .before .before .before .args in
@@ -28,23 +28,23 @@ gather-linked-requires c κs =
     let e : drop (a .own) (set (a .cells .now) (a .dst) (a .key)) ≡ drop (a .own) (a .cells .now) = drop-set-lt (a .own) (a .cells .now) (a .dst) (a .key) (omega (arith, c .before .before .before .before .pre .0)) in
     ((found-wider (a .found) 1 (a .w) (length (set (a .cells .now) (a .dst) (a .key)) - a .dst) (a .w) (c .before .before .before .before .pre .0 .0) (omega (arith, l, c .before .before .before .before .pre .0)) (omega arith), omega (arith, l, c .before .before .before .before .pre .0), c .before .before .before .before .pre .0 .1), (c .before .before .before .before .pre .1 .0, rw e (c .before .before .before .before .pre .1 .1)))
 
--- src/group.rt:121:11
+-- src/group.rt:97:11
 add-cells : tie.Need-add-cells
 add-cells c = search needs
 
--- src/group.rt:121:5
+-- src/group.rt:97:5
 mul-cells-2 : tie.Need-mul-cells-2
 mul-cells-2 c = search needs
 
--- src/group.rt:121:5
+-- src/group.rt:97:5
 slice-write-cells-2 : tie.Need-slice-write-cells-2
 slice-write-cells-2 c = rw length-set (omega (arith, c .before .before .before .before .before .pre .0))
 
--- src/group.rt:103:1
+-- src/group.rt:79:1
 same-length : tie.Need-same-length
 same-length c = search needs
 
--- src/group.rt:103:1
+-- src/group.rt:79:1
 returns : tie.Need-returns
 returns c =
     let a = c .before .before .before .before .before .args in

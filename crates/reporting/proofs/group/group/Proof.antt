@@ -26,33 +26,33 @@ equal c =
     let keys : Equals 0 (c .before .before .before .place-of .result) (c .before .before .before .before .before .find .result .keys) = c .before .key-at .ensures (c .if2 .taken) in
     (keys, keys .inside 1 (length (a .ids .now)) (c .before .before .before .before .before .find .ensures .inside .keys) .1)
 
--- src/group.rt:212:28
+-- src/group.rt:182:28
 slice-aggregate-find : tie.Need-slice-aggregate-find
 slice-aggregate-find c = search needs
 
--- src/group.rt:212:9
+-- src/group.rt:182:9
 find-requires : tie.Need-find-requires
 find-requires c κs = search needs
 
--- src/group.rt:214:9
+-- src/group.rt:184:9
 place-of-requires : tie.Need-place-of-requires
 place-of-requires c κs = search needs
 
--- src/group.rt:216:12
+-- src/group.rt:186:12
 key-at-requires : tie.Need-key-at-requires
 key-at-requires c κs = search needs
 
--- src/group.rt:217:13
+-- src/group.rt:187:13
 group-indexed-requires : tie.Need-group-indexed-requires
 group-indexed-requires c κs =
     let entry = c .before .before .before .before .before .before .before .before .before .before .before .pre in
     ((c .before .before .before .before .before .before .find .ensures .inside, equal (c .before) .1, entry .0 .2, entry .1 .0, entry .1 .1), equal (c .before) .0)
 
--- src/group.rt:217:13
+-- src/group.rt:187:13
 same-length : tie.Need-same-length
 same-length c = search needs
 
--- src/group.rt:217:13
+-- src/group.rt:187:13
 returns : tie.Need-returns
 returns c =
     let a = c .before .before .before .before .before .before .before .before .before .before .before .before .before .before .args in
@@ -65,23 +65,23 @@ returns c =
     let is-key = in-right [] (a .ids .now) env (a .node .right) (place .result) (place .ensures) (equal (c .before .before .before .before) .1) .cell [] in
     record { is = given .is ∙ sym (group-rows (a .node) (a .ids .now) env (found .result) key rows (c .before .before .before .before .before .before .before .before .before .before .before .before .before .before .pre .0 .0) (found .ensures) is-key); few = given .few }
 
--- src/group.rt:221:24
+-- src/group.rt:191:24
 slice-aggregate-side-of : tie.Need-slice-aggregate-side-of
 slice-aggregate-side-of c = search needs
 
--- src/group.rt:221:9
+-- src/group.rt:191:9
 side-of-requires : tie.Need-side-of-requires
 side-of-requires c κs = search needs
 
--- src/group.rt:222:5
+-- src/group.rt:192:5
 group-all-requires : tie.Need-group-all-requires
 group-all-requires c κs = search needs
 
--- src/group.rt:197:1
+-- src/group.rt:167:1
 same-length-2 : tie.Need-same-length-2
 same-length-2 c = search needs
 
--- src/group.rt:197:1
+-- src/group.rt:167:1
 returns-2 : tie.Need-returns-2
 returns-2 c =
     let a = c .before .before .before .before .before .before .before .before .before .before .before .before .before .before .args in

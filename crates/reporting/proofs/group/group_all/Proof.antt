@@ -30,48 +30,48 @@ in-row c =
     let l = c .before .loop in
     omega (arith, turns (a .m) (a .w) (l .i) (c .loop-test .taken), l .inv .few, l .inv .src-at, l .inv .dst-at, l .inv .long, c .before .before .before .pre .2, c .before .before .before .pre .3, c .before .before .before .pre .4)
 
--- src/group.rt:63:5
+-- src/group.rt:65:5
 loop-holds : tie.Need-loop-holds Inv-loop μ-loop
 loop-holds c =
     let a = c .before .args in
     grouping-start (a .found) (sideCell (a .side) []) (a .m) (a .w) (a .own) (a .cells .now)
 
--- src/group.rt:64:13
+-- src/group.rt:66:13
 side-cell-requires : tie.Need-side-cell-requires Inv-loop μ-loop
 side-cell-requires c κs =
     let a = c .before .before .before .before .args in
     let l = c .before .before .loop in
     side-wider (a .side) 0 (a .w) (length (l .cells) - 0) (length (l .cells) - l .src) (c .before .before .before .before .pre .1) (omega arith) (omega (arith, in-row (c .before) .0))
 
--- src/group.rt:65:13
+-- src/group.rt:67:13
 key-given-requires : tie.Need-key-given-requires Inv-loop μ-loop
 key-given-requires c κs = in-row (c .before .before .before) .1
 
--- src/group.rt:66:13
+-- src/group.rt:68:13
 give-key-requires : tie.Need-give-key-requires Inv-loop μ-loop
 give-key-requires c κs = (c .before .before .before .before .before .before .before .before .before .pre .0, c .before .before .before .before .before .before .before .before .before .pre .2, in-row (c .before .before .before .before .before .before) .2, omega (arith, c .before .before .before .before .before .before .before .before .before .pre .4, c .before .before .before .before .before .before .before .loop .inv .long))
 
--- src/group.rt:67:13
+-- src/group.rt:69:13
 add-out : tie.Need-add-out Inv-loop μ-loop
 add-out c = omega (arith, in-row (c .before .before .before .before .before .before .before .before .before) .1, in-row (c .before .before .before .before .before .before .before .before .before) .2, c .before .before .before .before .before .before .before .before .before .loop-test .taken, c .before .before .before .before .before .before .before .before .before .before .before .before .good, c .before .before .before .before .before .before .before .before .before .before .loop .inv .few)
 
--- src/group.rt:68:13
+-- src/group.rt:70:13
 add-dst : tie.Need-add-dst Inv-loop μ-loop
 add-dst c = omega (arith, in-row (c .before .before .before .before .before .before .before .before .before) .1, in-row (c .before .before .before .before .before .before .before .before .before) .2, c .before .before .before .before .before .before .before .before .before .loop-test .taken, c .before .before .before .before .before .before .before .before .before .before .before .before .good, c .before .before .before .before .before .before .before .before .before .before .loop .inv .few)
 
--- src/group.rt:70:9
+-- src/group.rt:72:9
 add-i : tie.Need-add-i Inv-loop μ-loop
 add-i c = omega (arith, c .before .before .before .before .before .loop-test .taken)
 
--- src/group.rt:71:9
+-- src/group.rt:73:9
 add-src : tie.Need-add-src Inv-loop μ-loop
 add-src c = omega (arith, in-row (c .before .before .before .before .before) .0, c .before .before .before .before .before .before .before .before .good, c .before .before .before .before .before .before .loop .inv .long)
 
--- src/group.rt:63:5
+-- src/group.rt:65:5
 loop-less : tie.Need-loop-less Inv-loop μ-loop
 loop-less c = omega (arith, c .before .before .before .before .before .loop-test .taken)
 
--- src/group.rt:63:5
+-- src/group.rt:65:5
 loop-again : tie.Need-loop-again Inv-loop μ-loop
 loop-again c =
     let a = c .before .before .before .before .before .before .before .before .args in
@@ -91,11 +91,11 @@ loop-again c =
     (λ v. grouping-seen (a .found) (sideCell (a .side) []) (a .m) (a .w) (a .own) first (l .cells) (j .cells) (l .i) (l .out) (j .out) (l .src) (l .dst) (j .dst) (l .inv) t key is-key (sym says ∙ not-false r (v .0 .left)) (v .1) (v .2) (v .3))
     (j .came)
 
--- src/group.rt:55:1
+-- src/group.rt:57:1
 same-length : tie.Need-same-length Inv-loop μ-loop
 same-length c = c .before .loop .inv .long
 
--- src/group.rt:55:1
+-- src/group.rt:57:1
 returns : tie.Need-returns Inv-loop μ-loop
 returns c =
     let a = c .before .before .before .args in

@@ -15,43 +15,43 @@ use Rattle.reporting.proofs.group.group_indexed.Lts as lts
 use Rattle.reporting.proofs.group.group_linked.Reads as group-linked-reads
 use Rattle.reporting.proofs.index.build.Reads as build-reads
 
--- src/group.rt:171:11
+-- src/group.rt:147:11
 mul-build : tie.Need-mul-build
 mul-build c = search needs
 
--- src/group.rt:171:11
+-- src/group.rt:147:11
 sub-build : tie.Need-sub-build
 sub-build c = search needs
 
--- src/group.rt:171:11
+-- src/group.rt:147:11
 part-build-start : tie.Need-part-build-start
 part-build-start c = search needs
 
--- src/group.rt:171:11
+-- src/group.rt:147:11
 part-build-end : tie.Need-part-build-end
 part-build-end c = search needs
 
--- src/group.rt:171:39
+-- src/group.rt:147:39
 slice-aggregate-build : tie.Need-slice-aggregate-build
 slice-aggregate-build c = search needs
 
--- src/group.rt:171:51
+-- src/group.rt:147:51
 slice-aggregate-build-2 : tie.Need-slice-aggregate-build-2
 slice-aggregate-build-2 c = search needs
 
--- src/group.rt:171:5
+-- src/group.rt:147:5
 build-requires : tie.Need-build-requires
 build-requires c κs = search needs
 
--- src/group.rt:172:50
+-- src/group.rt:148:50
 slice-aggregate-group-linked : tie.Need-slice-aggregate-group-linked
 slice-aggregate-group-linked c = search needs
 
--- src/group.rt:172:58
+-- src/group.rt:148:58
 slice-aggregate-group-linked-2 : tie.Need-slice-aggregate-group-linked-2
 slice-aggregate-group-linked-2 c = search needs
 
--- src/group.rt:172:5
+-- src/group.rt:148:5
 group-linked-requires : tie.Need-group-linked-requires
 group-linked-requires c κs =
     let a = c .before .before .before .before .before .before .before .before .before .before .before .args in
@@ -71,11 +71,11 @@ group-linked-requires c κs =
       ),
     )
 
--- src/group.rt:157:1
+-- src/group.rt:133:1
 same-length : tie.Need-same-length
 same-length c = search needs
 
--- src/group.rt:157:1
+-- src/group.rt:133:1
 returns : tie.Need-returns
 returns c = search needs
 

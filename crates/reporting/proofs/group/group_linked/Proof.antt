@@ -35,54 +35,54 @@ in-row c =
 linked : (c : tie.In-loop Inv-loop μ-loop) → Linked (c .before .before .before .before .before .args .right) (c .before .before .before .before .before .args .m) (chunk (c .before .before .before .before .before .args .m) (c .before .before .before .before .before .args .w) (drop (c .before .before .before .before .before .args .own) (c .before .loop .cells))) (c .before .before .before .before .before .args .heads .now) (c .before .before .before .before .before .args .next .now)
 linked c = rw (c .before .loop .inv .0 .rows) (c .before .before .before .before .before .pre .1 .1)
 
--- src/group.rt:143:5
+-- src/group.rt:119:5
 loop-holds : tie.Need-loop-holds Inv-loop μ-loop
 loop-holds c =
     let a = c .before .before .before .args in
     let key : Row → ℕ = λ q. getD q (a .right) 0 in
     (grouping-start (a .found) key (a .m) (a .w) (a .own) (a .cells .now), given-start (a .found) key (a .m) (a .w) (a .own) (a .cells .now))
 
--- src/group.rt:144:25
+-- src/group.rt:120:25
 add-key : tie.Need-add-key Inv-loop μ-loop
 add-key c = omega (arith, in-row (c) .0, c .before .before .before .before .before .pre .0 .1, c .before .before .before .before .before .good, c .before .loop .inv .0 .long)
 
--- src/group.rt:144:19
+-- src/group.rt:120:19
 mul-key : tie.Need-mul-key Inv-loop μ-loop
 mul-key c = omega (arith, in-row (c) .0, c .before .before .before .before .before .pre .0 .1, c .before .before .before .before .before .good, c .before .loop .inv .0 .long)
 
--- src/group.rt:144:19
+-- src/group.rt:120:19
 slice-read-key : tie.Need-slice-read-key Inv-loop μ-loop
 slice-read-key c = omega (arith, in-row (c .before) .0, c .before .before .before .before .before .before .pre .0 .1, c .before .before .before .before .before .before .good, c .before .before .loop .inv .0 .long)
 
--- src/group.rt:145:12
+-- src/group.rt:121:12
 first-linked-requires : tie.Need-first-linked-requires Inv-loop μ-loop
 first-linked-requires c κs = ((c .before .before .before .before .before .before .before .pre .0 .1, in-row (c .before .before) .1), linked (c .before .before))
 
--- src/group.rt:146:13
+-- src/group.rt:122:13
 give-linked-requires : tie.Need-give-linked-requires Inv-loop μ-loop
 give-linked-requires c κs = ((c .before .before .before .before .before .before .before .before .before .before .pre .0 .0, c .before .before .before .before .before .before .before .before .before .before .pre .0 .2, in-row (c .before .before .before .before .before) .2, in-row (c .before .before .before .before .before) .1), (c .before .before .before .before .before .before .before .before .before .before .pre .1 .0, linked (c .before .before .before .before .before)))
 
--- src/group.rt:147:13
+-- src/group.rt:123:13
 add-out : tie.Need-add-out Inv-loop μ-loop
 add-out c = omega (arith, in-row (c .before .before .before .before .before .before .before .before) .1, in-row (c .before .before .before .before .before .before .before .before) .2, c .before .before .before .before .before .before .before .before .loop-test .taken, c .before .before .before .before .before .before .before .before .before .before .before .before .before .good, c .before .before .before .before .before .before .before .before .before .loop .inv .0 .few)
 
--- src/group.rt:148:13
+-- src/group.rt:124:13
 add-dst : tie.Need-add-dst Inv-loop μ-loop
 add-dst c = omega (arith, in-row (c .before .before .before .before .before .before .before .before) .1, in-row (c .before .before .before .before .before .before .before .before) .2, c .before .before .before .before .before .before .before .before .loop-test .taken, c .before .before .before .before .before .before .before .before .before .before .before .before .before .good, c .before .before .before .before .before .before .before .before .before .loop .inv .0 .few)
 
--- src/group.rt:150:9
+-- src/group.rt:126:9
 add-i : tie.Need-add-i Inv-loop μ-loop
 add-i c = omega (arith, c .before .before .before .before .loop-test .taken)
 
--- src/group.rt:151:9
+-- src/group.rt:127:9
 add-src : tie.Need-add-src Inv-loop μ-loop
 add-src c = omega (arith, in-row (c .before .before .before .before) .0, c .before .before .before .before .before .before .before .before .before .good, c .before .before .before .before .before .loop .inv .0 .long)
 
--- src/group.rt:143:5
+-- src/group.rt:119:5
 loop-less : tie.Need-loop-less Inv-loop μ-loop
 loop-less c = omega (arith, c .before .before .before .before .loop-test .taken)
 
--- src/group.rt:143:5
+-- src/group.rt:119:5
 loop-again : tie.Need-loop-again Inv-loop μ-loop
 loop-again c =
     let a = c .before .before .before .before .before .before .before .before .before .args in
@@ -113,11 +113,11 @@ loop-again c =
     ))
     (j .came)
 
--- src/group.rt:125:1
+-- src/group.rt:101:1
 same-length : tie.Need-same-length Inv-loop μ-loop
 same-length c = c .before .loop .inv .0 .long
 
--- src/group.rt:125:1
+-- src/group.rt:101:1
 returns : tie.Need-returns Inv-loop μ-loop
 returns c =
     let a = c .before .before .before .before .before .args in

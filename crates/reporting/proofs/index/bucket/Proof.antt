@@ -7,11 +7,11 @@ use Rattle.reporting.proofs.index.bucket.Tie as tie
 use Rattle.reporting.proofs.index.bucket.Reads as reads
 use Rattle.reporting.proofs.index.bucket.Lts as lts
 
--- src/index.rt:13:6
+-- src/index.rt:17:6
 mul-result : tie.Need-mul-result
 mul-result c = search needs
 
--- src/index.rt:10:1
+-- src/index.rt:14:1
 returns : tie.Need-returns
 unfolding bucketOf
 returns c = (omega arith, refl)

@@ -28,45 +28,45 @@ inside c =
     let e : l .i - 1 < a .k = omega (arith, l .inv .0, c .loop-test .taken) in
     omega (arith, turns (a .k) (a .w) (l .i - 1) e, c .before .before .before .before .before .pre)
 
--- src/index.rt:68:5
+-- src/index.rt:72:5
 loop-holds : tie.Need-loop-holds Inv-loop μ-loop
 loop-holds c =
     let a = c .before .before .before .args in
     (omega arith, heads-length (c .before .before .before .pre .1 .0), refl, build-start (slotOf (a .place)) (chunk (a .k) (a .w) (a .rows .now)) (a .k) (a .heads .now) (a .next .now) (c .before .before .before .pre .1 .0))
 
--- src/index.rt:69:9
+-- src/index.rt:73:9
 sub-i : tie.Need-sub-i Inv-loop μ-loop
 sub-i c = omega arith
 
--- src/index.rt:70:29
+-- src/index.rt:74:29
 mul-bucket : tie.Need-mul-bucket Inv-loop μ-loop
 mul-bucket c = omega (arith, inside (c), c .before .before .before .before .before .pre, c .before .before .before .before .before .good)
 
--- src/index.rt:70:29
+-- src/index.rt:74:29
 add-bucket : tie.Need-add-bucket Inv-loop μ-loop
 add-bucket c = omega (arith, inside (c), c .before .before .before .before .before .pre, c .before .before .before .before .before .good)
 
--- src/index.rt:70:24
+-- src/index.rt:74:24
 mul-bucket-2 : tie.Need-mul-bucket-2 Inv-loop μ-loop
 mul-bucket-2 c = omega (arith, inside (c), c .before .before .before .before .before .pre, c .before .before .before .before .before .good)
 
--- src/index.rt:70:24
+-- src/index.rt:74:24
 shared-slice-read-bucket : tie.Need-shared-slice-read-bucket Inv-loop μ-loop
 shared-slice-read-bucket c = omega (arith, inside (c .before), c .before .before .before .before .before .before .pre, c .before .before .before .before .before .before .good)
 
--- src/index.rt:70:13
+-- src/index.rt:74:13
 bucket-requires : tie.Need-bucket-requires Inv-loop μ-loop
 bucket-requires c κs = omega (arith, inside (c .before), c .before .before .before .before .before .before .pre, c .before .before .before .before .before .before .good)
 
--- src/index.rt:71:9
+-- src/index.rt:75:9
 link-requires : tie.Need-link-requires Inv-loop μ-loop
 link-requires c κs = omega (arith, c .before .before .before .before .before .loop .inv .0, c .before .before .before .before .before .loop .inv .1, c .before .before .before .before .before .loop .inv .2, c .before .before .bucket .ensures, c .before .before .before .before .before .before .before .before .before .pre)
 
--- src/index.rt:68:5
+-- src/index.rt:72:5
 loop-less : tie.Need-loop-less Inv-loop μ-loop
 loop-less c = omega arith
 
--- src/index.rt:68:5
+-- src/index.rt:72:5
 loop-again : tie.Need-loop-again Inv-loop μ-loop
 loop-again c =
     let a = c .before .before .before .before .before .before .before .before .before .before .before .before .before .before .args in
@@ -80,15 +80,15 @@ loop-again c =
       build-turn (a .place) (a .w) (a .k) (a .rows .now) (l .heads) (l .next) h n (l .i) b (c .before .before .before .before .before .before .before .before .before .loop-test .taken) (l .inv .0) (omega (arith, c .before .before .before .before .before .before .before .before .before .before .before .before .before .before .pre)) (c .before .before .before .before .before .before .before .bucket .ensures .1) (omega (arith, l .inv .1, c .before .before .before .before .before .before .before .bucket .ensures, c .before .before .before .before .before .before .before .before .before .before .before .before .before .before .pre)) (omega (arith, l .inv .2, c .before .before .before .before .before .before .before .before .before .before .before .before .before .before .pre)) (c .before .before .before .before .link .ensures .0) (c .before .before .before .before .link .ensures .1) (l .inv .3),
     )
 
--- src/index.rt:55:1
+-- src/index.rt:59:1
 same-length : tie.Need-same-length Inv-loop μ-loop
 same-length c = c .before .loop .inv .1 ∙ sym (heads-length (c .before .before .before .before .before .pre .1 .0))
 
--- src/index.rt:55:1
+-- src/index.rt:59:1
 same-length-2 : tie.Need-same-length-2 Inv-loop μ-loop
 same-length-2 c = c .before .loop .inv .2
 
--- src/index.rt:55:1
+-- src/index.rt:59:1
 returns : tie.Need-returns Inv-loop μ-loop
 returns c =
     let a = c .before .before .before .before .before .args in

@@ -32,23 +32,23 @@ inside c =
     let i : l .h - 1 < a .m = walk-inside (a .m) (a .next .now) (l .h) (l .inv .0) (c .loop-test .taken) in
     (i, omega (arith, turns (a .m) (a .w) (l .h - 1) i, c .before .before .before .before .before .before .before .before .pre .0))
 
--- src/group.rt:91:28
+-- src/index.rt:94:28
 bucket-requires : tie.Need-bucket-requires Inv-loop μ-loop
 bucket-requires c κs = search needs
 
--- src/group.rt:91:22
+-- src/index.rt:94:22
 mul-wide : tie.Need-mul-wide Inv-loop μ-loop
 mul-wide c = omega (arith, c .bucket .ensures .0, c .before .before .before .before .pre .1 .all-heads)
 
--- src/group.rt:91:22
+-- src/index.rt:94:22
 shared-slice-read-wide : tie.Need-shared-slice-read-wide Inv-loop μ-loop
 shared-slice-read-wide c = omega (arith, c .before .bucket .ensures .0, c .before .before .before .before .before .pre .1 .all-heads)
 
--- src/group.rt:91:9
+-- src/index.rt:94:9
 wide-requires : tie.Need-wide-requires Inv-loop μ-loop
 wide-requires c κs = omega (arith, c .before .bucket .ensures .0, c .before .before .before .before .before .pre .1 .all-heads)
 
--- src/group.rt:92:5
+-- src/index.rt:95:5
 loop-holds : tie.Need-loop-holds Inv-loop μ-loop
 loop-holds c =
     let a = c .before .before .before .before .before .before .args in
@@ -61,57 +61,57 @@ loop-holds c =
       earliest-start (a .place) rs (a .m) (a .heads .now) (a .next .now) (a .key) (b .result) (h .result) many x (b .ensures .0) (b .ensures .1) (h .ensures),
     )
 
--- src/group.rt:93:17
+-- src/index.rt:96:17
 sub-i : tie.Need-sub-i Inv-loop μ-loop
 sub-i c = omega arith
 
--- src/group.rt:94:24
+-- src/index.rt:97:24
 mul-if1 : tie.Need-mul-if1 Inv-loop μ-loop
 mul-if1 c = omega (arith, inside (c) .0, inside (c) .1, c .before .before .before .before .before .before .before .before .pre .0, c .before .before .before .before .before .before .before .before .good)
 
--- src/group.rt:94:18
+-- src/index.rt:97:18
 add-if1 : tie.Need-add-if1 Inv-loop μ-loop
 add-if1 c = omega (arith, inside (c) .0, inside (c) .1, c .before .before .before .before .before .before .before .before .pre .0, c .before .before .before .before .before .before .before .before .good)
 
--- src/group.rt:94:18
+-- src/index.rt:97:18
 add-if1-2 : tie.Need-add-if1-2 Inv-loop μ-loop
 add-if1-2 c = omega (arith, inside (c) .0, inside (c) .1, c .before .before .before .before .before .before .before .before .pre .0, c .before .before .before .before .before .before .before .before .good)
 
--- src/group.rt:94:12
+-- src/index.rt:97:12
 mul-if1-2 : tie.Need-mul-if1-2 Inv-loop μ-loop
 mul-if1-2 c = omega (arith, inside (c) .0, inside (c) .1, c .before .before .before .before .before .before .before .before .pre .0, c .before .before .before .before .before .before .before .before .good)
 
--- src/group.rt:94:12
+-- src/index.rt:97:12
 shared-slice-read-if1 : tie.Need-shared-slice-read-if1 Inv-loop μ-loop
 shared-slice-read-if1 c = omega (arith, inside (c .before) .0, inside (c .before) .1, c .before .before .before .before .before .before .before .before .before .pre .0, c .before .before .before .before .before .before .before .before .before .good)
 
--- src/group.rt:95:13
+-- src/index.rt:98:13
 returns : tie.Need-returns Inv-loop μ-loop
 returns c =
     let a = c .before .before .before .before .before .before .before .before .before .before .args in
     let l = c .before .before .before .loop in
     sym (l .inv .1 ∙ earliest-here (a .own) (a .m) (a .w) (a .cells .now) (a .place) (a .key) (a .next .now) (l .h) (l .inv .0) (c .before .before .loop-test .taken) (inside (c .before .before) .0) (c .before .before .before .before .before .before .before .before .before .before .pre .0 .0) (c .if1 .taken))
 
--- src/group.rt:97:18
+-- src/index.rt:100:18
 mul-wide-2 : tie.Need-mul-wide-2 Inv-loop μ-loop
 mul-wide-2 c = omega (arith, inside (c .before .before) .0, c .before .before .before .before .before .before .before .before .before .before .pre .1 .all-next, c .before .before .before .before .before .before .before .before .before .before .good)
 
--- src/group.rt:97:18
+-- src/index.rt:100:18
 shared-slice-read-wide-2 : tie.Need-shared-slice-read-wide-2 Inv-loop μ-loop
 shared-slice-read-wide-2 c = omega (arith, inside (c .before .before .before) .0, c .before .before .before .before .before .before .before .before .before .before .before .pre .1 .all-next, c .before .before .before .before .before .before .before .before .before .before .before .good)
 
--- src/group.rt:97:9
+-- src/index.rt:100:9
 wide-requires-2 : tie.Need-wide-requires-2 Inv-loop μ-loop
 wide-requires-2 c κs = omega (arith, inside (c .before .before .before) .0, c .before .before .before .before .before .before .before .before .before .before .before .pre .1 .all-next, c .before .before .before .before .before .before .before .before .before .before .before .good)
 
--- src/group.rt:92:5
+-- src/index.rt:95:5
 loop-less : tie.Need-loop-less Inv-loop μ-loop
 loop-less c =
     let a = c .before .before .before .before .before .before .before .before .before .before .before .before .args in
     let l = c .before .before .before .before .before .loop in
     walk-less (a .m) (a .next .now) (l .h) (l .inv .0) (c .before .before .before .before .loop-test .taken) (c .wide2 .result) (c .wide2 .ensures)
 
--- src/group.rt:92:5
+-- src/index.rt:95:5
 loop-again : tie.Need-loop-again Inv-loop μ-loop
 loop-again c =
     let a = c .before .before .before .before .before .before .before .before .before .before .before .before .args in
@@ -121,7 +121,7 @@ loop-again c =
       l .inv .1 ∙ earliest-next (a .own) (a .m) (a .w) (a .cells .now) (a .place) (a .key) (a .next .now) (l .h) (l .inv .0) (c .before .before .before .before .loop-test .taken) (inside (c .before .before .before .before) .0) (c .before .before .before .before .before .before .before .before .before .before .before .before .pre .0 .0) (h .result) (h .ensures) (c .before .before .if1 .left),
     )
 
--- src/group.rt:77:1
+-- src/index.rt:80:1
 returns-2 : tie.Need-returns-2 Inv-loop μ-loop
 returns-2 c =
     let a = c .before .before .before .before .before .before .before .before .args in

@@ -18,41 +18,41 @@ Inv-loop row h₀ i₀ h i = (i ≤ length row) × (mixed 0 row ≡ mixed h (dro
 abbrev μ-loop : tie.MeasureT-loop
 μ-loop row h₀ i₀ h i = length row - i
 
--- src/index.rt:29:5
+-- src/index.rt:33:5
 loop-holds : tie.Need-loop-holds Inv-loop μ-loop
 loop-holds c = (omega arith, refl)
 
--- src/index.rt:30:20
+-- src/index.rt:34:20
 mul-mix : tie.Need-mul-mix Inv-loop μ-loop
 mul-mix c = search needs
 
--- src/index.rt:30:20
+-- src/index.rt:34:20
 shared-slice-read-mix : tie.Need-shared-slice-read-mix Inv-loop μ-loop
 shared-slice-read-mix c = search needs
 
--- src/index.rt:30:9
+-- src/index.rt:34:9
 mix-requires : tie.Need-mix-requires Inv-loop μ-loop
 mix-requires c κs = search needs
 
--- src/index.rt:31:9
+-- src/index.rt:35:9
 add-i : tie.Need-add-i Inv-loop μ-loop
 add-i c = search needs
 
--- src/index.rt:29:5
+-- src/index.rt:33:5
 loop-less : tie.Need-loop-less Inv-loop μ-loop
 loop-less c = search needs
 
--- src/index.rt:29:5
+-- src/index.rt:33:5
 loop-again : tie.Need-loop-again Inv-loop μ-loop
 loop-again c =
     let l = c .before .before .before .loop in
     (omega arith, l .inv .1 ∙ mixed-next (c .before .before .before .before .before .args .row .now) (l .h) (c .mix .result) (l .i) (c .before .before .loop-test .taken) (c .mix .ensures))
 
--- src/index.rt:33:5
+-- src/index.rt:37:5
 bucket-requires : tie.Need-bucket-requires Inv-loop μ-loop
 bucket-requires c κs = search needs
 
--- src/index.rt:24:1
+-- src/index.rt:28:1
 returns : tie.Need-returns Inv-loop μ-loop
 returns c =
     let l = c .before .before .loop in

@@ -13,11 +13,11 @@ use Rattle.reporting.proofs.matching.known_at.Reads as reads
 use Rattle.reporting.proofs.matching.known_at.Lts as lts
 use Rattle.reporting.proofs.matching.known_loop.Reads as known-loop-reads
 
--- src/matching.rt:256:9
+-- src/matching.rt:223:9
 slice-aggregate-known-loop : tie.Need-slice-aggregate-known-loop
 slice-aggregate-known-loop c = search needs
 
--- src/matching.rt:242:5
+-- src/matching.rt:209:5
 known-loop-requires : tie.Need-known-loop-requires
 known-loop-requires c κs =
     let a = c .before .before .before .before .before .before .before .args in
@@ -26,11 +26,11 @@ known-loop-requires c κs =
     let few : length rs ≤ 4096 = omega (arith, length-chunk (a .k) (length (a .jds .now)) (drop (a .behind) (a .cells .now)), p .1 .0 .2) in
     (p .0, (p .1 .0, (p .1 .1 .0, (p .1 .1 .1 .0, (p .1 .1 .1 .1 .0, (p .1 .1 .1 .1 .1, known-start (a .found) (a .left) (a .right) (p .1 .1 .1 .0 .1) rs few))))))
 
--- src/matching.rt:218:1
+-- src/matching.rt:185:1
 same-length : tie.Need-same-length
 same-length c = search needs
 
--- src/matching.rt:218:1
+-- src/matching.rt:185:1
 returns : tie.Need-returns
 returns c = search needs
 

@@ -41,15 +41,15 @@ given c =
     let h = c .before .before .before .loop-test .taken in
     (step-few (a .node) (a .found) (a .ids .now) (a .jds .now) (a .own) (a .m) (a .behind) (a .k) (a .cells .now) (p .0 .0) (p .0 .1) (p .1 .1 .0 .0) (l .cells) (l .i) (l .out) (l .src) (l .dst) (l .inv .0) h (s .result) (s .last .1 .1 .0) (s .ensures .0), emitting-ends (a .node) (a .found) (a .ids .now) (a .jds .now) (a .own) (a .m) (a .behind) (a .k) (a .cells .now) (p .0 .0) (p .0 .1) (p .1 .1 .0 .0) (l .cells) (l .i) (l .out) (l .src) (l .dst) (l .inv .0) h (s .result) (s .last .1 .1 .0) (s .ensures .0) (c .before .before .before .before .before .emitted-width .result) (c .before .before .before .before .before .emitted-width .ensures))
 
--- src/matching.rt:187:9
+-- src/matching.rt:154:9
 emitted-width-requires : tie.Need-emitted-width-requires Inv-loop μ-loop
 emitted-width-requires c κs = let p = c .before .before .before .before .before .before .pre in (p .0 .1, p .1 .0 .0, p .1 .0 .1)
 
--- src/matching.rt:192:5
+-- src/matching.rt:159:5
 loop-holds : tie.Need-loop-holds Inv-loop μ-loop
 loop-holds c = let a = c .before .before .before .before .before .before .before .args in (emitting-start (a .node) (a .found) (a .ids .now) (a .jds .now) (a .own) (a .m) (a .behind) (a .k) (a .cells .now), c .before .before .before .before .before .before .before .pre .1 .1 .1 .1 .1 .1)
 
--- src/matching.rt:193:13
+-- src/matching.rt:160:13
 known-row-requires : tie.Need-known-row-requires Inv-loop μ-loop
 known-row-requires c κs =
     let a = c .before .before .before .before .before .before .before .before .before .before .before .args in
@@ -57,31 +57,31 @@ known-row-requires c κs =
     let l = c .before .before .before .loop in
     ((p .0 .0 .found .inside, p .1 .0 .2), ((in-row (c .before .before) .0, omega (arith, l .inv .0 .long, p .1 .1 .0 .1)), ((p .1 .1 .1 .0 .0, p .0 .1, p .1 .1 .1 .0 .1), (subst (λ (x : List ℕ). Linked (a .right) (a .k) (chunk (a .k) (length (a .jds .now)) x) (a .heads .now) (a .next .now)) (sym (l .inv .0 .right)) (p .1 .1 .1 .1 .0), (p .1 .1 .1 .1 .1 .0, subst (λ (x : List ℕ). Known (a .found) (a .left) (a .right) (chunk (a .k) (length (a .jds .now)) x) (l .known)) (sym (l .inv .0 .right)) (l .inv .1))))))
 
--- src/matching.rt:209:9
+-- src/matching.rt:176:9
 add-out : tie.Need-add-out Inv-loop μ-loop
 add-out c = omega (arith, in-row (c .before .before .before .before .before .before .before) .1, given (c .before .before .before .before) .0)
 
--- src/matching.rt:210:16
+-- src/matching.rt:177:16
 mul-dst : tie.Need-mul-dst Inv-loop μ-loop
 mul-dst c = omega (arith, given (c .before .before .before .before) .1, c .before .before .before .before .before .before .before .before .before .before .before .before .before .before .before .before .fits .behind)
 
--- src/matching.rt:210:9
+-- src/matching.rt:177:9
 add-dst : tie.Need-add-dst Inv-loop μ-loop
 add-dst c = omega (arith, given (c .before .before .before .before) .1, c .before .before .before .before .before .before .before .before .before .before .before .before .before .before .before .before .fits .behind)
 
--- src/matching.rt:211:9
+-- src/matching.rt:178:9
 add-i : tie.Need-add-i Inv-loop μ-loop
 add-i c = omega (arith, c .before .before .before .before .before .before .before .loop-test .taken, c .before .before .before .before .before .before .before .before .before .before .before .before .before .before .before .before .fits .m)
 
--- src/matching.rt:212:9
+-- src/matching.rt:179:9
 add-src : tie.Need-add-src Inv-loop μ-loop
 add-src c = omega (arith, in-row (c .before .before .before .before .before .before .before) .0 .apart, c .before .before .before .before .before .before .before .before .before .before .before .before .before .before .before .before .fits .behind)
 
--- src/matching.rt:192:5
+-- src/matching.rt:159:5
 loop-less : tie.Need-loop-less Inv-loop μ-loop
 loop-less c = omega (arith, c .before .before .before .before .before .before .before .loop-test .taken)
 
--- src/matching.rt:192:5
+-- src/matching.rt:159:5
 loop-again : tie.Need-loop-again Inv-loop μ-loop
 loop-again c =
     let a = c .before .before .before .before .before .before .before .before .before .before .before .before .before .before .before .before .args in
@@ -90,15 +90,15 @@ loop-again c =
     let s = c .before .before .before .before .known-row in
     (emitting-turn (a .node) (a .found) (a .ids .now) (a .jds .now) (a .own) (a .m) (a .behind) (a .k) (a .cells .now) (p .0 .0) (p .0 .1) (p .1 .1 .0 .0) (l .cells) (l .i) (l .out) (l .src) (l .dst) (l .inv .0) (c .before .before .before .before .before .before .before .loop-test .taken) (s .result) (s .last .1 .1 .0) (s .ensures .0) (s .kept .1 .1 .0) (c .before .before .before .before .before .before .before .before .before .emitted-width .result) (c .before .before .before .before .before .before .before .before .before .emitted-width .ensures), subst (λ (x : List ℕ). Known (a .found) (a .left) (a .right) (chunk (a .k) (length (a .jds .now)) x) (s .last .1 .1 .1 .1 .1 .1 .1 .1 .1 .1 .1 .1 .1 .0)) (l .inv .0 .right) (s .ensures .1))
 
--- src/matching.rt:162:1
+-- src/matching.rt:129:1
 same-length : tie.Need-same-length Inv-loop μ-loop
 same-length c = c .before .loop .inv .0 .long
 
--- src/matching.rt:162:1
+-- src/matching.rt:129:1
 same-length-2 : tie.Need-same-length-2 Inv-loop μ-loop
 same-length-2 c = omega (arith, c .before .loop .inv .1 .all, c .before .before .before .before .before .before .before .before .before .pre .1 .1 .1 .1 .1 .1 .all)
 
--- src/matching.rt:162:1
+-- src/matching.rt:129:1
 returns : tie.Need-returns Inv-loop μ-loop
 returns c =
     let a = c .before .before .before .before .before .before .before .before .before .args in

@@ -30,31 +30,31 @@ linked c =
       index = subst (λ (x : List _). Index (slotOf (a .right)) (chunk (a .k) (length (a .jds .now)) x) (upward (a .k) 0) (b .last .1 .1 .1 .1 .0) (b .last .1 .1 .1 .1 .1 .0)) (tail-part (a .behind) (a .cells .now)) (b .ensures);
     }
 
--- src/matching.rt:299:11
+-- src/matching.rt:266:11
 mul-build : tie.Need-mul-build
 mul-build c = search needs
 
--- src/matching.rt:299:11
+-- src/matching.rt:266:11
 sub-build : tie.Need-sub-build
 sub-build c = search needs
 
--- src/matching.rt:299:11
+-- src/matching.rt:266:11
 part-build-start : tie.Need-part-build-start
 part-build-start c = search needs
 
--- src/matching.rt:299:11
+-- src/matching.rt:266:11
 part-build-end : tie.Need-part-build-end
 part-build-end c = search needs
 
--- src/matching.rt:299:50
+-- src/matching.rt:266:50
 slice-aggregate-build : tie.Need-slice-aggregate-build
 slice-aggregate-build c = search needs
 
--- src/matching.rt:299:62
+-- src/matching.rt:266:62
 slice-aggregate-build-2 : tie.Need-slice-aggregate-build-2
 slice-aggregate-build-2 c = search needs
 
--- src/matching.rt:299:5
+-- src/matching.rt:266:5
 build-requires : tie.Need-build-requires
 build-requires c κs =
     let a = c .before .before .before .before .before .before .before .args in
@@ -62,49 +62,49 @@ build-requires c κs =
     let right : a .right < length (a .jds .now) = p .1 .1 .1 .1 .inside (length (a .ids .now)) (length (a .jds .now)) (p .0 .0 .found .inside .keys) .1 in
     ((p .1 .0 .2, right, omega (arith, tail-length (a .behind) (a .cells .now), p .1 .1 .0 .1)), (refl, p .1 .0 .2))
 
--- src/matching.rt:300:8
+-- src/matching.rt:267:8
 keeps-cells-requires : tie.Need-keeps-cells-requires
 keeps-cells-requires c κs = search needs
 
--- src/matching.rt:313:13
+-- src/matching.rt:280:13
 slice-aggregate-known-at : tie.Need-slice-aggregate-known-at
 slice-aggregate-known-at c = search needs
 
--- src/matching.rt:314:13
+-- src/matching.rt:281:13
 slice-aggregate-known-at-2 : tie.Need-slice-aggregate-known-at-2
 slice-aggregate-known-at-2 c = search needs
 
--- src/matching.rt:301:9
+-- src/matching.rt:268:9
 known-at-requires : tie.Need-known-at-requires
 known-at-requires c κs =
     let p = c .before .before .before .before .before .before .before .before .before .before .before .before .before .before .before .pre in
     (p .0, (p .1 .0, (p .1 .1 .0, (p .1 .1 .1, (linked (c .before .before .before .before .before .before .before), subst (λ (b : Bool). SharedIf b (c .before .before .before .before .before .before .before .before .before .before .before .before .before .before .before .args .found)) (c .before .before .before .if1 .taken) (c .before .before .before .before .keeps-cells .ensures))))))
 
--- src/matching.rt:301:9
+-- src/matching.rt:268:9
 same-length : tie.Need-same-length
 same-length c = search needs
 
--- src/matching.rt:301:9
+-- src/matching.rt:268:9
 returns : tie.Need-returns
 returns c = search needs
 
--- src/matching.rt:329:9
+-- src/matching.rt:296:9
 slice-aggregate-linked-loop : tie.Need-slice-aggregate-linked-loop
 slice-aggregate-linked-loop c = search needs
 
--- src/matching.rt:330:9
+-- src/matching.rt:297:9
 slice-aggregate-linked-loop-2 : tie.Need-slice-aggregate-linked-loop-2
 slice-aggregate-linked-loop-2 c = search needs
 
--- src/matching.rt:317:5
+-- src/matching.rt:284:5
 linked-loop-requires : tie.Need-linked-loop-requires
 linked-loop-requires c κs = let p = c .before .before .before .before .before .before .before .before .before .before .before .before .before .before .before .pre in (p .0, (p .1 .0, (p .1 .1 .0, (p .1 .1 .1, linked (c .before .before .before .before .before .before .before)))))
 
--- src/matching.rt:278:1
+-- src/matching.rt:245:1
 same-length-2 : tie.Need-same-length-2
 same-length-2 c = search needs
 
--- src/matching.rt:278:1
+-- src/matching.rt:245:1
 returns-2 : tie.Need-returns-2
 returns-2 c = search needs
 

@@ -39,45 +39,45 @@ given c =
     let h = c .before .before .loop-test .taken in
     (step-few (a .node) (a .found) (a .ids .now) (a .jds .now) (a .own) (a .m) (a .behind) (a .k) (a .cells .now) (p .0 .0) (p .0 .1) (p .1 .1 .0) (l .cells) (l .i) (l .out) (l .src) (l .dst) (l .inv) h (s .result) (s .last .1 .1 .0) (s .ensures), emitting-ends (a .node) (a .found) (a .ids .now) (a .jds .now) (a .own) (a .m) (a .behind) (a .k) (a .cells .now) (p .0 .0) (p .0 .1) (p .1 .1 .0) (l .cells) (l .i) (l .out) (l .src) (l .dst) (l .inv) h (s .result) (s .last .1 .1 .0) (s .ensures) (c .before .before .before .before .emitted-width .result) (c .before .before .before .before .emitted-width .ensures))
 
--- src/matching.rt:139:9
+-- src/matching.rt:60:9
 emitted-width-requires : tie.Need-emitted-width-requires Inv-loop μ-loop
 emitted-width-requires c κs = let p = c .before .before .before .pre in (p .0 .1, p .1 .0 .0, p .1 .0 .1)
 
--- src/matching.rt:144:5
+-- src/matching.rt:65:5
 loop-holds : tie.Need-loop-holds Inv-loop μ-loop
 loop-holds c = let a = c .before .before .before .before .args in emitting-start (a .node) (a .found) (a .ids .now) (a .jds .now) (a .own) (a .m) (a .behind) (a .k) (a .cells .now)
 
--- src/matching.rt:145:13
+-- src/matching.rt:66:13
 emit-row-requires : tie.Need-emit-row-requires Inv-loop μ-loop
 emit-row-requires c κs =
     let p = c .before .before .before .before .before .before .before .pre in
     ((p .0 .0 .found .inside, p .1 .0 .2, p .0 .1), (in-row (c .before) .0, omega (arith, c .before .before .loop .inv .long, p .1 .1 .1)))
 
--- src/matching.rt:160:9
+-- src/matching.rt:67:9
 add-out : tie.Need-add-out Inv-loop μ-loop
 add-out c = omega (arith, in-row (c .before .before .before .before) .1, given (c .before .before) .0)
 
--- src/matching.rt:161:16
+-- src/matching.rt:68:16
 mul-dst : tie.Need-mul-dst Inv-loop μ-loop
 mul-dst c = omega (arith, given (c .before .before) .1, c .before .before .before .before .before .before .before .before .before .before .fits .behind)
 
--- src/matching.rt:161:9
+-- src/matching.rt:68:9
 add-dst : tie.Need-add-dst Inv-loop μ-loop
 add-dst c = omega (arith, given (c .before .before) .1, c .before .before .before .before .before .before .before .before .before .before .fits .behind)
 
--- src/matching.rt:162:9
+-- src/matching.rt:69:9
 add-i : tie.Need-add-i Inv-loop μ-loop
 add-i c = omega (arith, c .before .before .before .before .loop-test .taken, c .before .before .before .before .before .before .before .before .before .before .fits .m)
 
--- src/matching.rt:163:9
+-- src/matching.rt:70:9
 add-src : tie.Need-add-src Inv-loop μ-loop
 add-src c = omega (arith, in-row (c .before .before .before .before) .0 .apart, c .before .before .before .before .before .before .before .before .before .before .fits .behind)
 
--- src/matching.rt:144:5
+-- src/matching.rt:65:5
 loop-less : tie.Need-loop-less Inv-loop μ-loop
 loop-less c = omega (arith, c .before .before .before .before .loop-test .taken)
 
--- src/matching.rt:144:5
+-- src/matching.rt:65:5
 loop-again : tie.Need-loop-again Inv-loop μ-loop
 loop-again c =
     let a = c .before .before .before .before .before .before .before .before .before .before .args in
@@ -86,11 +86,11 @@ loop-again c =
     let s = c .before .before .emit-row in
     emitting-turn (a .node) (a .found) (a .ids .now) (a .jds .now) (a .own) (a .m) (a .behind) (a .k) (a .cells .now) (p .0 .0) (p .0 .1) (p .1 .1 .0) (l .cells) (l .i) (l .out) (l .src) (l .dst) (l .inv) (c .before .before .before .before .loop-test .taken) (s .result) (s .last .1 .1 .0) (s .ensures) (s .kept .1 .1 .0) (c .before .before .before .before .before .before .emitted-width .result) (c .before .before .before .before .before .before .emitted-width .ensures)
 
--- src/matching.rt:116:1
+-- src/matching.rt:43:1
 same-length : tie.Need-same-length Inv-loop μ-loop
 same-length c = c .before .loop .inv .long
 
--- src/matching.rt:116:1
+-- src/matching.rt:43:1
 returns : tie.Need-returns Inv-loop μ-loop
 returns c =
     let a = c .before .before .before .before .before .before .args in

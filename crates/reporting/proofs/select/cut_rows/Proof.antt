@@ -22,33 +22,33 @@ in-row c =
     let r = c .before .before .before .before .before .before .pre .1 in
     omega (arith, building-row p (c .loop-test .taken), p .src-at, p .dst-at, r .below (c .before .loop .i) (c .loop-test .taken), r .inside, c .before .loop .inv .1)
 
--- src/select.rt:75:5
+-- src/select.rt:87:5
 loop-holds : tie.Need-loop-holds Inv-loop μ-loop
 loop-holds c =
     let a = c .before .before .before .before .args in
     (building-start (a .cells .now) (sym (map-single (cut (a .list .now) (a .ids .now) (envOf (a .env .now))) (rowsFrom (a .own) (a .m) (length (a .ids .now)) (a .cells .now)))), refl)
 
--- src/select.rt:76:9
+-- src/select.rt:88:9
 cut-row-requires : tie.Need-cut-row-requires Inv-loop μ-loop
 cut-row-requires c κs = let (inside, below) = in-row (c .before) in (c .before .before .before .before .before .before .before .pre .0, below, inside)
 
--- src/select.rt:77:9
+-- src/select.rt:89:9
 add-i : tie.Need-add-i Inv-loop μ-loop
 add-i c = omega arith
 
--- src/select.rt:78:9
+-- src/select.rt:90:9
 add-src : tie.Need-add-src Inv-loop μ-loop
 add-src c = omega (arith, in-row (c .before .before .before .before))
 
--- src/select.rt:79:9
+-- src/select.rt:91:9
 add-dst : tie.Need-add-dst Inv-loop μ-loop
 add-dst c = omega (arith, in-row (c .before .before .before .before))
 
--- src/select.rt:75:5
+-- src/select.rt:87:5
 loop-less : tie.Need-loop-less Inv-loop μ-loop
 loop-less c = omega arith
 
--- src/select.rt:75:5
+-- src/select.rt:87:5
 loop-again : tie.Need-loop-again Inv-loop μ-loop
 loop-again c =
     let a = c .before .before .before .before .before .before .before .before .before .before .args in
@@ -57,11 +57,11 @@ loop-again c =
     let w = length (a .ids .now) in
     (kept-turn (l .inv .0) (c .before .before .before .before .loop-test .taken) (cut (a .list .now) (a .ids .now) (envOf (a .env .now)) (rowAt (l .src) w (l .cells))) (c .before .before .cut-row .last .0) (l .i + 1) (l .dst + length (a .list .now)) refl (c .before .before .cut-row .ensures) (omega arith) refl refl, c .before .before .cut-row .kept .0 ∙ l .inv .1)
 
--- src/select.rt:59:1
+-- src/select.rt:78:1
 same-length : tie.Need-same-length Inv-loop μ-loop
 same-length c = c .before .loop .inv .1
 
--- src/select.rt:59:1
+-- src/select.rt:78:1
 returns : tie.Need-returns Inv-loop μ-loop
 returns c =
     let a = c .before .before .before .before .before .before .args in

@@ -24,35 +24,35 @@ in-row c =
     let r = c .before .before .before .before .pre .1 in
     omega (arith, building-row p (c .loop-test .taken), p .src-at, p .dst-at, r .below (c .before .loop .i) (c .loop-test .taken), r .inside, c .before .loop .inv .1)
 
--- src/select.rt:112:5
+-- src/select.rt:105:5
 loop-holds : tie.Need-loop-holds Inv-loop μ-loop
 loop-holds c =
     let a = c .before .before .args in
     (building-start (a .cells .now) (sym (map-single (picked (a .places .now)) (rowsFrom (a .own) (a .m) (a .w) (a .cells .now)))), refl)
 
--- src/select.rt:113:9
+-- src/select.rt:106:9
 cut-row-at-requires : tie.Need-cut-row-at-requires Inv-loop μ-loop
 cut-row-at-requires c κs =
     let (inside, below) = in-row (c .before) in
     (below, λ i h. omega (arith, c .before .before .before .before .before .pre .0 i h))
 
--- src/select.rt:114:9
+-- src/select.rt:107:9
 add-i : tie.Need-add-i Inv-loop μ-loop
 add-i c = omega arith
 
--- src/select.rt:115:9
+-- src/select.rt:108:9
 add-src : tie.Need-add-src Inv-loop μ-loop
 add-src c = omega (arith, in-row (c .before .before .before .before))
 
--- src/select.rt:116:9
+-- src/select.rt:109:9
 add-dst : tie.Need-add-dst Inv-loop μ-loop
 add-dst c = omega (arith, in-row (c .before .before .before .before))
 
--- src/select.rt:112:5
+-- src/select.rt:105:5
 loop-less : tie.Need-loop-less Inv-loop μ-loop
 loop-less c = omega arith
 
--- src/select.rt:112:5
+-- src/select.rt:105:5
 loop-again : tie.Need-loop-again Inv-loop μ-loop
 loop-again c =
     let a = c .before .before .before .before .before .before .before .before .args in
@@ -60,11 +60,11 @@ loop-again c =
     let r = in-row (c .before .before .before .before) in
     (kept-turn (l .inv .0) (c .before .before .before .before .loop-test .taken) (picked (a .places .now) (drop (l .src) (l .cells))) (c .before .before .cut-row-at .last .0) (l .i + 1) (l .dst + length (a .places .now)) (ap (λ (q : Row). q ∷ []) (picked-front (a .places .now) (a .w) (drop (l .src) (l .cells)) (c .before .before .before .before .before .before .before .before .pre .0))) (c .before .before .cut-row-at .ensures) (omega arith) refl refl, c .before .before .cut-row-at .kept .0 ∙ l .inv .1)
 
--- src/select.rt:104:1
+-- src/select.rt:97:1
 same-length : tie.Need-same-length Inv-loop μ-loop
 same-length c = c .before .loop .inv .1
 
--- src/select.rt:104:1
+-- src/select.rt:97:1
 returns : tie.Need-returns Inv-loop μ-loop
 returns c =
     let a = c .before .before .before .before .args in

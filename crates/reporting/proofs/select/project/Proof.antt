@@ -25,63 +25,63 @@ placed c =
     let long : length (take (n - 0) (p .last .1 .1 .0)) ≡ n - 0 = length-take-le (n - 0) (p .last .1 .1 .0) (omega (arith, p .kept .1 .1 .0, c .before .before .before .before .before .if1 .left)) in
     (same, omega (arith, ap length same))
 
--- src/select.rt:135:9
+-- src/select.rt:129:9
 cut-rows-requires : tie.Need-cut-rows-requires
 cut-rows-requires c κs = search needs
 
--- src/select.rt:135:9
+-- src/select.rt:129:9
 same-length : tie.Need-same-length
 same-length c = search needs
 
--- src/select.rt:135:9
+-- src/select.rt:129:9
 returns : tie.Need-returns
 returns c = search needs
 
--- src/select.rt:138:9
+-- src/select.rt:132:9
 cut-rows-requires-2 : tie.Need-cut-rows-requires-2
 cut-rows-requires-2 c κs = search needs
 
--- src/select.rt:138:9
+-- src/select.rt:132:9
 same-length-2 : tie.Need-same-length-2
 same-length-2 c = search needs
 
--- src/select.rt:138:9
+-- src/select.rt:132:9
 returns-2 : tie.Need-returns-2
 returns-2 c = search needs
 
--- src/select.rt:141:41
+-- src/select.rt:135:41
 slice-aggregate-positions-of : tie.Need-slice-aggregate-positions-of
 slice-aggregate-positions-of c = search needs
 
--- src/select.rt:141:9
+-- src/select.rt:135:9
 positions-of-requires : tie.Need-positions-of-requires
 positions-of-requires c κs = search needs
 
--- src/select.rt:143:9
+-- src/select.rt:137:9
 cut-rows-requires-3 : tie.Need-cut-rows-requires-3
 cut-rows-requires-3 c κs = search needs
 
--- src/select.rt:143:9
+-- src/select.rt:137:9
 same-length-3 : tie.Need-same-length-3
 same-length-3 c = search needs
 
--- src/select.rt:143:9
+-- src/select.rt:137:9
 returns-3 : tie.Need-returns-3
 returns-3 c = search needs
 
--- src/select.rt:145:43
+-- src/select.rt:139:43
 sub-cut-rows-at : tie.Need-sub-cut-rows-at
 sub-cut-rows-at c = search needs
 
--- src/select.rt:145:43
+-- src/select.rt:139:43
 part-cut-rows-at-start : tie.Need-part-cut-rows-at-start
 part-cut-rows-at-start c = search needs
 
--- src/select.rt:145:43
+-- src/select.rt:139:43
 part-cut-rows-at-end : tie.Need-part-cut-rows-at-end
 part-cut-rows-at-end c = search needs
 
--- src/select.rt:145:5
+-- src/select.rt:139:5
 cut-rows-at-requires : tie.Need-cut-rows-at-requires
 cut-rows-at-requires c κs =
     let a = c .before .before .before .before .before .before .before .before .before .before .before .before .before .args in
@@ -89,11 +89,11 @@ cut-rows-at-requires c κs =
     subst (λ (x : List ℕ). Inside x (length (a .ids .now)) × CutsRoom (length (a .ids .now)) (length x) (a .own) (a .m) (length (a .cells .now))) (sym same)
     (positions-inside (a .list .now) (a .ids .now), subst (λ (n : ℕ). CutsRoom (length (a .ids .now)) n (a .own) (a .m) (length (a .cells .now))) (sym all) (c .before .before .before .before .before .before .before .before .before .before .before .before .before .pre .1))
 
--- src/select.rt:122:1
+-- src/select.rt:116:1
 same-length-4 : tie.Need-same-length-4
 same-length-4 c = search needs
 
--- src/select.rt:122:1
+-- src/select.rt:116:1
 returns-4 : tie.Need-returns-4
 returns-4 c =
     let a = c .before .before .before .before .before .before .before .before .before .before .before .before .before .before .before .before .args in

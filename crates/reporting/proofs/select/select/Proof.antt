@@ -26,52 +26,52 @@ abbrev μ-loop : tie.MeasureT-loop
 in-row : (c : tie.In-loop Inv-loop μ-loop) → (c .before .loop .src + length (c .before .before .before .before .before .before .before .args .ids .now) ≤ length (c .before .loop .cells)) × (c .before .loop .dst ≤ c .before .loop .src)
 in-row c = let p = c .before .loop .inv .0 in omega (arith, building-row p (c .loop-test .taken), kept-below p, c .before .before .before .before .before .before .before .pre)
 
--- src/select.rt:30:41
+-- src/select.rt:32:41
 slice-aggregate-find-test : tie.Need-slice-aggregate-find-test Inv-loop μ-loop
 slice-aggregate-find-test c = search needs
 
--- src/select.rt:30:9
+-- src/select.rt:32:9
 find-test-requires : tie.Need-find-test-requires Inv-loop μ-loop
 find-test-requires c κs = search needs
 
--- src/select.rt:35:5
+-- src/select.rt:37:5
 loop-holds : tie.Need-loop-holds Inv-loop μ-loop
 loop-holds c =
     let a = c .before .before .before .before .before .args in
     let p = conditionHolds (c .find-test .result) [] in
     (building-start (a .cells .now) (sym (filter-kept p (chunk (a .m) (length (a .ids .now)) (drop (a .own) (a .cells .now))))), refl)
 
--- src/select.rt:36:12
+-- src/select.rt:38:12
 condition-holds-requires : tie.Need-condition-holds-requires Inv-loop μ-loop
 condition-holds-requires c κs =
     let a = c .before .before .before .before .before .before .before .before .args in
     condition-wider (c .before .before .before .find-test .result) 0 (length (a .ids .now)) (length (c .before .before .loop .cells) - 0) (length (c .before .before .loop .cells) - c .before .before .loop .src) (c .before .before .before .find-test .ensures .inside) (omega arith) (omega (arith, in-row (c .before)))
 
--- src/select.rt:37:13
+-- src/select.rt:39:13
 copy-row-requires : tie.Need-copy-row-requires Inv-loop μ-loop
 copy-row-requires c κs = omega (arith, in-row (c .before .before .before .before))
 
--- src/select.rt:38:13
+-- src/select.rt:40:13
 add-out : tie.Need-add-out Inv-loop μ-loop
 add-out c = omega (arith, c .before .before .before .before .before .before .before, c .before .before .before .before .before .before .before .before .loop .inv .0 .few)
 
--- src/select.rt:39:13
+-- src/select.rt:41:13
 add-dst : tie.Need-add-dst Inv-loop μ-loop
 add-dst c = omega (arith, in-row (c .before .before .before .before .before .before .before) .0, in-row (c .before .before .before .before .before .before .before) .1, c .before .before .before .before .before .before .before)
 
--- src/select.rt:41:9
+-- src/select.rt:43:9
 add-i : tie.Need-add-i Inv-loop μ-loop
 add-i c = omega arith
 
--- src/select.rt:42:9
+-- src/select.rt:44:9
 add-src : tie.Need-add-src Inv-loop μ-loop
 add-src c = omega (arith, in-row (c .before .before .before) .0)
 
--- src/select.rt:35:5
+-- src/select.rt:37:5
 loop-less : tie.Need-loop-less Inv-loop μ-loop
 loop-less c = omega arith
 
--- src/select.rt:35:5
+-- src/select.rt:37:5
 loop-again : tie.Need-loop-again Inv-loop μ-loop
 loop-again c =
     let a = c .before .before .before .before .before .before .before .before .before .before .args in
@@ -90,11 +90,11 @@ loop-again c =
     (λ v. (skipped-turn p h (c .if1 .cells) (c .if1 .out) (c .if1 .dst) (ap (λ b. cond b (row ∷ []) []) (met ∙ v .0 .left)) (v .1) (v .2) (v .3), ap length (v .1) ∙ l .inv .1))
     (c .if1 .came)
 
--- src/select.rt:16:1
+-- src/select.rt:18:1
 same-length : tie.Need-same-length Inv-loop μ-loop
 same-length c = c .before .loop .inv .1
 
--- src/select.rt:16:1
+-- src/select.rt:18:1
 returns : tie.Need-returns Inv-loop μ-loop
 returns c =
     let a = c .before .before .before .before .before .before .before .args in

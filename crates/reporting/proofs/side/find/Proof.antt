@@ -13,23 +13,23 @@ use Rattle.reporting.proofs.side.find_keys.Reads as find-keys-reads
 use Rattle.reporting.proofs.side.find_measured.Reads as find-measured-reads
 use Rattle.reporting.proofs.side.find_test.Reads as find-test-reads
 
--- src/side.rt:187:9
+-- src/side.rt:199:9
 aggregate-code-requires : tie.Need-aggregate-code-requires
 aggregate-code-requires c κs = search needs
 
--- src/side.rt:189:9
+-- src/side.rt:201:9
 find-keys-requires : tie.Need-find-keys-requires
 find-keys-requires c κs = search needs
 
--- src/side.rt:190:9
+-- src/side.rt:202:9
 find-test-requires : tie.Need-find-test-requires
 find-test-requires c κs = search needs
 
--- src/side.rt:191:9
+-- src/side.rt:203:9
 find-measured-requires : tie.Need-find-measured-requires
 find-measured-requires c κs = search needs
 
--- src/side.rt:183:1
+-- src/side.rt:195:1
 returns : tie.Need-returns
 returns c =
     let a = c .before .before .before .before .before .before .before .args in

@@ -9,23 +9,23 @@ use Rattle.reporting.proofs.side.side_of.Reads as side-of-reads
 use Rattle.reporting.proofs.test.has_keys.Reads as has-keys-reads
 use Rattle.reporting.proofs.test.key_comparison.Reads as key-comparison-reads
 
--- src/side.rt:125:18
+-- src/side.rt:137:18
 has-keys-requires : tie.Need-has-keys-requires
 has-keys-requires c κs = search needs
 
--- src/side.rt:126:21
+-- src/side.rt:138:21
 key-comparison-requires : tie.Need-key-comparison-requires
 key-comparison-requires c κs = search needs
 
--- src/side.rt:127:15
+-- src/side.rt:139:15
 side-of-requires : tie.Need-side-of-requires
 side-of-requires c κs = search needs
 
--- src/side.rt:128:16
+-- src/side.rt:140:16
 side-of-requires-2 : tie.Need-side-of-requires-2
 side-of-requires-2 c κs = search needs
 
--- src/side.rt:119:1
+-- src/side.rt:131:1
 returns : tie.Need-returns
 returns c =
     let a = c .before .before .before .before .before .before .before .args in

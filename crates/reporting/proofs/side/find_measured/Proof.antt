@@ -7,17 +7,17 @@ use Rattle.reporting.proofs.side.find_measured.Reads as reads
 use Rattle.reporting.proofs.side.find_measured.Lts as lts
 use Rattle.reporting.proofs.side.side_of.Reads as side-of-reads
 
--- src/side.rt:177:9
+-- src/side.rt:189:9
 returns : tie.Need-returns
 returns c =
     let a = c .before .before .before .before .args in
     measured-none (a .cs .now) (a .ds .now) (envOf (a .env .now)) (a .code) (a .id) (c .if1 .taken)
 
--- src/side.rt:179:5
+-- src/side.rt:191:5
 side-of-requires : tie.Need-side-of-requires
 side-of-requires c κs = search needs
 
--- src/side.rt:172:1
+-- src/side.rt:184:1
 returns-2 : tie.Need-returns-2
 returns-2 c =
     let a = c .before .before .before .before .before .args in

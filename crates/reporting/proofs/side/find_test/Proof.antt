@@ -7,44 +7,44 @@ use Rattle.reporting.proofs.side.find_test.Reads as reads
 use Rattle.reporting.proofs.side.find_test.Lts as lts
 use Rattle.reporting.proofs.side.side_of.Reads as side-of-reads
 
--- src/side.rt:89:19
+-- src/side.rt:101:19
 enum-told : tie.Need-enum-told
 enum-told c = search needs
 
--- src/side.rt:94:13
+-- src/side.rt:106:13
 enum-known-form : tie.Need-enum-known-form
 enum-known-form c = search needs
 
--- src/side.rt:100:19
+-- src/side.rt:112:19
 side-of-requires : tie.Need-side-of-requires
 side-of-requires c κs = search needs
 
--- src/side.rt:101:20
+-- src/side.rt:113:20
 side-of-requires-2 : tie.Need-side-of-requires-2
 side-of-requires-2 c κs = search needs
 
--- src/side.rt:105:13
+-- src/side.rt:117:13
 enum-known-form-2 : tie.Need-enum-known-form-2
 enum-known-form-2 c = search needs
 
--- src/side.rt:111:19
+-- src/side.rt:123:19
 side-of-requires-3 : tie.Need-side-of-requires-3
 side-of-requires-3 c κs = search needs
 
--- src/side.rt:81:1
+-- src/side.rt:93:1
 returns : tie.Need-returns
 returns c =
     let a = c .before .before .before .before .before .args in
     always-found (a .cs .now) (a .ds .now) (envOf (a .env .now)) (a .negated) (a .form) (c .enum-told .given .1)
 
--- src/side.rt:81:1
+-- src/side.rt:93:1
 returns-2 : tie.Need-returns-2
 returns-2 c =
     let a = c .before .before .before .before .before .before .before .before .args in
     let v = c .before .before .before .form .given .0 in
     columns-found (a .cs .now) (a .ds .now) (envOf (a .env .now)) (a .negated) (a .form) (v .0) (v .1 .0) (v .1 .1 .0) (c .before .side-of .result) (c .side-of2 .result) (c .before .before .before .form .given .1) (c .before .side-of .ensures) (c .side-of2 .ensures)
 
--- src/side.rt:81:1
+-- src/side.rt:93:1
 returns-3 : tie.Need-returns-3
 returns-3 c =
     let a = c .before .before .before .before .before .before .before .args in

@@ -9,23 +9,23 @@ use Rattle.reporting.proofs.side.key_places.Reads as reads
 use Rattle.reporting.proofs.side.key_places.Lts as lts
 use Rattle.reporting.proofs.side.side_places.Reads as side-places-reads
 
--- src/side.rt:156:9
+-- src/side.rt:168:9
 returns : tie.Need-returns
 returns c = search needs
 
--- src/side.rt:159:9
+-- src/side.rt:171:9
 returns-2 : tie.Need-returns-2
 returns-2 c = search needs
 
--- src/side.rt:162:9
+-- src/side.rt:174:9
 returns-3 : tie.Need-returns-3
 returns-3 c = search needs
 
--- src/side.rt:166:5
+-- src/side.rt:178:5
 side-places-requires : tie.Need-side-places-requires
 side-places-requires c κs = search needs
 
--- src/side.rt:152:1
+-- src/side.rt:164:1
 returns-4 : tie.Need-returns-4
 returns-4 c =
     let keys = c .before .before .before .before .before .args .keys in

@@ -23,43 +23,43 @@ in-right c =
     let a = c .before .before .args in
     subst (λ (s : Side). SideInside s (length (a .cells .now) - a .src) (length (a .cells .now) - a .at)) (c .side2 .given .1) (c .before .before .pre)
 
--- src/side.rt:72:20
+-- src/side.rt:73:20
 enum-known-side : tie.Need-enum-known-side
 enum-known-side c = search needs
 
--- src/side.rt:72:36
+-- src/side.rt:73:36
 add-result : tie.Need-add-result
 add-result c = omega (arith, in-left (c .before), c .before .before .before .good)
 
--- src/side.rt:72:30
+-- src/side.rt:73:30
 mul-result : tie.Need-mul-result
 mul-result c = omega (arith, in-left (c .before), c .before .before .before .good)
 
--- src/side.rt:72:30
+-- src/side.rt:73:30
 shared-slice-read-result : tie.Need-shared-slice-read-result
 shared-slice-read-result c = omega (arith, in-left (c .before .before), c .before .before .before .before .good)
 
--- src/side.rt:73:21
+-- src/side.rt:74:21
 enum-known-side-2 : tie.Need-enum-known-side-2
 enum-known-side-2 c = search needs
 
--- src/side.rt:73:37
+-- src/side.rt:74:37
 add-result-2 : tie.Need-add-result-2
 add-result-2 c = omega (arith, in-right (c .before), c .before .before .before .good)
 
--- src/side.rt:73:31
+-- src/side.rt:74:31
 mul-result-2 : tie.Need-mul-result-2
 mul-result-2 c = omega (arith, in-right (c .before), c .before .before .before .good)
 
--- src/side.rt:73:31
+-- src/side.rt:74:31
 shared-slice-read-result-2 : tie.Need-shared-slice-read-result-2
 shared-slice-read-result-2 c = omega (arith, in-right (c .before .before), c .before .before .before .before .good)
 
--- src/side.rt:74:20
+-- src/side.rt:75:20
 enum-known-side-3 : tie.Need-enum-known-side-3
 enum-known-side-3 c = search needs
 
--- src/side.rt:67:1
+-- src/side.rt:68:1
 returns : tie.Need-returns
 returns c =
     let a = c .before .before .before .before .args in
@@ -68,7 +68,7 @@ returns c =
     let place = c .before .before .side .given .0 .0 in
     sym (ap (λ (s : Side). sideCell s l r) (c .before .before .side .given .1) ∙ getD-drop (a .src) (a .cells .now) place 0)
 
--- src/side.rt:67:1
+-- src/side.rt:68:1
 returns-2 : tie.Need-returns-2
 returns-2 c =
     let a = c .before .before .before .before .args in
@@ -77,7 +77,7 @@ returns-2 c =
     let place = c .before .before .side2 .given .0 .0 in
     sym (ap (λ (s : Side). sideCell s l r) (c .before .before .side2 .given .1) ∙ getD-drop (a .at) (a .cells .now) place 0)
 
--- src/side.rt:67:1
+-- src/side.rt:68:1
 returns-3 : tie.Need-returns-3
 returns-3 c = search needs
 

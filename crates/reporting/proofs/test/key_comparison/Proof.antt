@@ -6,12 +6,12 @@ use Rattle.reporting.proofs.test.key_comparison.Tie as tie
 use Rattle.reporting.proofs.test.key_comparison.Reads as reads
 use Rattle.reporting.proofs.test.key_comparison.Lts as lts
 
--- src/test.rt:79:9
+-- src/test.rt:42:9
 returns : tie.Need-returns
 unfolding keyComparison
 returns c = let k = c .before .args .kind in rw (lt-ltb k 12 (omega arith))
 
--- src/test.rt:75:1
+-- src/test.rt:38:1
 returns-2 : tie.Need-returns-2
 unfolding keyComparison
 returns-2 c = let k = c .before .args .kind in rw (le-ltb k 12 (omega arith))

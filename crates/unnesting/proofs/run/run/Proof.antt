@@ -35,7 +35,7 @@ step c = finds-step _ _ _ _ _ _ _ _ (c .before .before .before .before .before .
 room : (c : tie.After-rule Inv-loop μ-loop) → c .before .before .before .before .before .before .before .before .before .before .before .before .loop .count + 1 ≤ 192
 room c = running-room (c .before .before .before .before .before .before .before .before .before .before .before .before .before .before .before .before .before .before .before .before .before .before .before .args .set .now) (c .before .before .before .before .before .before .before .before .before .before .before .before .before .before .before .before .before .before .before .before .before .before .before .args .plan .now) (c .before .before .before .before .before .before .before .before .before .before .before .before .before .before .before .before .before .before .before .before .before .before .before .pre .0 .0) _ _ _ _ _ _ _ (c .before .before .before .before .before .before .before .before .before .before .before .before .loop .inv .4) (whole (c .before .before .before .before .before .before .before .before .before .before .before .before)) (fits (c .before .before .before .before .before .before .before .before .before .before .before)) _ _ _ _ _ (step (c))
 
--- src/run.rt:48:5
+-- src/run.rt:50:5
 write-bytes-requires : tie.Need-write-bytes-requires Inv-loop μ-loop
 write-bytes-requires c κs =
     let s = c .before .before .before .before .before .before .before in
@@ -43,26 +43,26 @@ write-bytes-requires c κs =
     let k = plan-passed (a .set .now) (a .plan .now) (input-parts (a .set .now) (a .plan .now) (s .pre .0 .0) .1) .known in
     omega (arith, k .long, k .most, s .pre .1 .0)
 
--- src/run.rt:52:5
+-- src/run.rt:54:5
 loop-holds : tie.Need-loop-holds Inv-loop μ-loop
 loop-holds c =
     let s = c .before .before .before .before .before .before .before .before .before .before in
     let a = s .args in
     (omega arith, omega arith, omega arith, omega arith, running-start (a .set .now) (a .plan .now) (s .pre .0 .0) _ _ _ _ (s .pre .0 .1) (s .pre .0 .2) (ap (take (length (a .plan .now))) (c .before .before .write-bytes .ensures) ∙ front-written _ _))
 
--- src/run.rt:53:34
+-- src/run.rt:55:34
 sub-smallest-step : tie.Need-sub-smallest-step Inv-loop μ-loop
 sub-smallest-step c = search needs
 
--- src/run.rt:53:34
+-- src/run.rt:55:34
 part-smallest-step-start : tie.Need-part-smallest-step-start Inv-loop μ-loop
 part-smallest-step-start c = search needs
 
--- src/run.rt:53:34
+-- src/run.rt:55:34
 part-smallest-step-end : tie.Need-part-smallest-step-end Inv-loop μ-loop
 part-smallest-step-end c = omega (arith, c .before .before .loop .inv .4 .stored .short, c .before .before .loop .inv .0, c .before .before .before .before .before .before .before .before .before .before .before .before .before .pre .1 .0, c .before .before .before .before .before .write-bytes .kept .0)
 
--- src/run.rt:53:15
+-- src/run.rt:55:15
 smallest-step-requires : tie.Need-smallest-step-requires Inv-loop μ-loop
 smallest-step-requires c κs =
     let s = c .before .before .before .before .before .before .before .before .before .before .before .before .before .before .before .before in
@@ -71,27 +71,27 @@ smallest-step-requires c κs =
     let h = held (a .set .now) (a .plan .now) (s .pre .0 .0) _ _ _ _ _ _ _ (l .inv .4) (whole (c .before .before .before .before .before)) in
     ((h .allowed, h .passed, s .pre .1 .3), (omega (arith, h .needs, c .before .before .before .before .loop-test .taken), omega (arith, l .inv .1, s .pre .1 .1)))
 
--- src/run.rt:55:17
+-- src/run.rt:57:17
 enum-told : tie.Need-enum-told Inv-loop μ-loop
 enum-told c = search needs
 
--- src/run.rt:55:17
+-- src/run.rt:57:17
 same-length : tie.Need-same-length Inv-loop μ-loop
 same-length c = search needs
 
--- src/run.rt:55:17
+-- src/run.rt:57:17
 same-length-2 : tie.Need-same-length-2 Inv-loop μ-loop
 same-length-2 c = search needs
 
--- src/run.rt:55:17
+-- src/run.rt:57:17
 same-length-3 : tie.Need-same-length-3 Inv-loop μ-loop
 same-length-3 c = search needs
 
--- src/run.rt:55:17
+-- src/run.rt:57:17
 same-length-4 : tie.Need-same-length-4 Inv-loop μ-loop
 same-length-4 c = search needs
 
--- src/run.rt:55:17
+-- src/run.rt:57:17
 returns : tie.Need-returns Inv-loop μ-loop
 returns c =
     let s = c .before .before .before .before .before .before .before .before .before .before .before .before .before .before .before .before .before .before .before .before .before .before .before in
@@ -99,39 +99,39 @@ returns c =
     let l = c .before .before .before .before .before .before .before .before .before .before .before .before .loop in
     running-end (a .set .now) (a .plan .now) (s .pre .0 .0) _ _ _ _ _ _ _ (l .inv .4) (whole (c .before .before .before .before .before .before .before .before .before .before .before .before)) (fits (c .before .before .before .before .before .before .before .before .before .before .before)) (omega (arith, l .inv .0, s .pre .1 .0, c .before .before .before .before .before .before .before .before .before .before .before .before .before .before .before .write-bytes .kept .0)) (finds-nothing _ _ _ _ (c .before .before .before .before .before .before .smallest-step .ensures) (c .enum-told .given .1))
 
--- src/run.rt:62:17
+-- src/run.rt:64:17
 enum-known-rule : tie.Need-enum-known-rule Inv-loop μ-loop
 enum-known-rule c = search needs
 
--- src/run.rt:67:17
+-- src/run.rt:69:17
 write-step-requires : tie.Need-write-step-requires Inv-loop μ-loop
 write-step-requires c κs = omega (arith, room (c .before .before), c .before .before .before .before .before .before .before .before .before .before .before .before .before .before .loop .inv .2, c .before .before .before .before .before .before .before .before .before .before .before .before .before .before .before .before .before .before .before .before .before .before .before .before .before .pre .1 .2)
 
--- src/run.rt:68:41
+-- src/run.rt:70:41
 sub-write-bytes : tie.Need-sub-write-bytes Inv-loop μ-loop
 sub-write-bytes c = search needs
 
--- src/run.rt:68:41
+-- src/run.rt:70:41
 part-write-bytes-start : tie.Need-part-write-bytes-start Inv-loop μ-loop
 part-write-bytes-start c = search needs
 
--- src/run.rt:68:41
+-- src/run.rt:70:41
 part-write-bytes-end : tie.Need-part-write-bytes-end Inv-loop μ-loop
 part-write-bytes-end c = omega (arith, step (c .before .before .before .before .before .before .before) .left .stored .short, c .before .before .before .before .before .before .before .before .before .before .before .before .before .smallest-step .kept .1 .1 .1 .0, c .before .before .before .before .before .before .before .before .before .before .before .before .before .before .before .before .before .before .before .loop .inv .1, c .before .before .before .before .before .before .before .before .before .before .before .before .before .before .before .before .before .before .before .before .before .before .before .before .before .before .before .before .before .before .pre .1 .1)
 
--- src/run.rt:68:17
+-- src/run.rt:70:17
 write-bytes-requires-2 : tie.Need-write-bytes-requires-2 Inv-loop μ-loop
 write-bytes-requires-2 c κs = omega (arith, length-take (c .before .before .before .before .before .before .before .before .rule .given .0 .1 .1 .0 - 0) (c .before .before .before .before .before .before .before .before .before .before .before .before .before .before .smallest-step .last .1 .1 .1 .0), step (c .before .before .before .before .before .before .before .before) .left .stored .short, c .before .before .before .before .before .before .before .before .before .before .before .before .before .before .before .before .before .before .before .before .loop .inv .0, c .before .before .before .before .before .before .before .before .before .before .before .before .before .before .before .before .before .before .before .before .before .before .before .before .before .before .before .before .before .before .before .pre .1 .0, c .before .before .before .before .before .before .before .before .before .before .before .before .before .before .before .before .before .before .before .before .before .before .before .write-bytes .kept .0)
 
--- src/run.rt:69:17
+-- src/run.rt:71:17
 add-count : tie.Need-add-count Inv-loop μ-loop
 add-count c = omega (arith, room (c .before .before .before .before .before .before .before .before .before .before .before))
 
--- src/run.rt:52:5
+-- src/run.rt:54:5
 loop-less : tie.Need-loop-less Inv-loop μ-loop
 loop-less c = omega (arith, room (c .before .before .before .before .before .before .before .before .before .before .before))
 
--- src/run.rt:52:5
+-- src/run.rt:54:5
 loop-again : tie.Need-loop-again Inv-loop μ-loop
 loop-again c =
     let s = c .before .before .before .before .before .before .before .before .before .before .before .before .before .before .before .before .before .before .before .before .before .before .before .before .before .before .before .before .before .before .before .before .before .before in
@@ -141,23 +141,23 @@ loop-again c =
     let n = step (c .before .before .before .before .before .before .before .before .before .before .before) in
     (omega (arith, l .inv .0, c .before .before .write-bytes2 .kept .0), omega (arith, l .inv .1, e .kept .1 .1 .1 .0), omega (arith, l .inv .2, c .before .before .before .before .before .before .before .before .write-step .kept .0), omega (arith, l .inv .3, e .kept .1 .1 .1 .1 .0), running-step (a .set .now) (a .plan .now) (s .pre .0 .0) _ _ _ _ _ _ _ (l .inv .4) (whole (c .before .before .before .before .before .before .before .before .before .before .before .before .before .before .before .before .before .before .before .before .before .before .before)) (fits (c .before .before .before .before .before .before .before .before .before .before .before .before .before .before .before .before .before .before .before .before .before .before)) _ _ _ _ _ n _ _ (ap (take (c .before .before .before .before .before .before .before .before .before .before .before .rule .given .0 .1 .1 .0)) (c .before .before .write-bytes2 .ensures) ∙ front-part (l .current) (e .last .1 .1 .1 .0) (c .before .before .before .before .before .before .before .before .before .before .before .rule .given .0 .1 .1 .0) (omega (arith, n .left .stored .short, e .kept .1 .1 .1 .0, l .inv .1, s .pre .1 .1))) (c .before .before .before .before .before .before .before .before .write-step .ensures))
 
--- src/run.rt:35:1
+-- src/run.rt:37:1
 same-length-5 : tie.Need-same-length-5 Inv-loop μ-loop
 same-length-5 c = search needs
 
--- src/run.rt:35:1
+-- src/run.rt:37:1
 same-length-6 : tie.Need-same-length-6 Inv-loop μ-loop
 same-length-6 c = search needs
 
--- src/run.rt:35:1
+-- src/run.rt:37:1
 same-length-7 : tie.Need-same-length-7 Inv-loop μ-loop
 same-length-7 c = search needs
 
--- src/run.rt:35:1
+-- src/run.rt:37:1
 same-length-8 : tie.Need-same-length-8 Inv-loop μ-loop
 same-length-8 c = search needs
 
--- src/run.rt:35:1
+-- src/run.rt:37:1
 returns-2 : tie.Need-returns-2 Inv-loop μ-loop
 returns-2 c =
     let s = c .before .before .before .before .before .before .before .before .before .before .before .before in

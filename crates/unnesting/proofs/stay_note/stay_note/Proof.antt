@@ -25,54 +25,54 @@ input c = accepted-input (c .before .before .before .before .before .before .arg
 read : (c : tie.After-tables) → readSet (c .before .before .before .before .before .before .args .set .now) ≡ Holds (c .tables .given .0 .0)
 read c = accepted (c .before .before .before .before .before .before .args .set .now) (c .before .before .before .before .before .before .args .plan .now) _ _ _ (sym (c .before .before .check-input .ensures) ∙ c .tables .given .1) .setRead
 
--- src/stay_note.rt:61:11
+-- src/stay_note.rt:57:11
 check-input-requires : tie.Need-check-input-requires
 check-input-requires c κs = search needs
 
--- src/stay_note.rt:62:26
+-- src/stay_note.rt:58:26
 enum-known-number : tie.Need-enum-known-number
 enum-known-number c = search needs
 
--- src/stay_note.rt:66:13
+-- src/stay_note.rt:62:13
 enum-known-tables : tie.Need-enum-known-tables
 enum-known-tables c = search needs
 
--- src/stay_note.rt:69:17
+-- src/stay_note.rt:65:17
 clear-requires : tie.Need-clear-requires
 clear-requires c κs = search needs
 
--- src/stay_note.rt:70:17
+-- src/stay_note.rt:66:17
 same-length : tie.Need-same-length
 same-length c = search needs
 
--- src/stay_note.rt:70:17
+-- src/stay_note.rt:66:17
 returns : tie.Need-returns
 returns c =
     let a = c .before .before .before .before .before .before .before .before .before .before .before .before .args in
     let i = input (c .before .before .before .before .before .before) in
     note-short (a .set .now) (a .plan .now) (a .place) (a .scratch .now) _ _ (i .0) (c .before .before .clear .ensures) (omega (arith, i .1, c .before .before .before .before .if1 .taken)) refl
 
--- src/stay_note.rt:72:17
+-- src/stay_note.rt:68:17
 note-at-requires : tie.Need-note-at-requires
 note-at-requires c κs =
     let i = input (c .before .before .before) in
     (i .0, (omega (arith, i .1, c .before .if1 .left), read (c .before .before .before)))
 
--- src/stay_note.rt:73:13
+-- src/stay_note.rt:69:13
 clear-requires-2 : tie.Need-clear-requires-2
 clear-requires-2 c κs = search needs
 
--- src/stay_note.rt:58:1
+-- src/stay_note.rt:54:1
 returns-2 : tie.Need-returns-2
 returns-2 c =
     let a = c .before .before .before .before .before .before .before .args in
     note-turned-back (a .set .now) (a .plan .now) (a .place) (a .scratch .now) (a .scratch .now) _ _ (sym (c .before .before .before .check-input .ensures) ∙ c .before .number .given .1) refl refl
 
--- src/stay_note.rt:58:1
+-- src/stay_note.rt:54:1
 same-length-2 : tie.Need-same-length-2
 same-length-2 c = search needs
 
--- src/stay_note.rt:58:1
+-- src/stay_note.rt:54:1
 returns-3 : tie.Need-returns-3
 returns-3 c =
     let a = c .before .before .before .before .before .before .before .before .before .before .before .before .before .before .before .before .args in

@@ -94,69 +94,69 @@ back₂ t c =
     let len : length last ≡ length (a .cells .now) - behind = c .eval2 .kept .1 .1 .1 .0 ∙ tail-length behind cells ∙ ap (λ (x : ℕ). x - behind) was in
     (same-len-mid behind (length cells - behind) cells last (c .eval2 .kept .1 .1 .1 .0) ∙ was, kid-of (inner-ready (both t (c .before .before .before .before .before)) (c .before .before .before .before .before .before .before .before .before .before .before .before .before .before .before .before .before .before .before .before .before .pre .1) (first t (c .before .before .before .before .before .before .before .before .before .before .before .before)) (c .before .before .before .before .before .before .before .before .before .before .before .share-at .ensures .0) b (length last) len) (c .eval2 .ensures))
 
--- src/eval.rt:279:8
+-- src/eval.rt:208:8
 pub nodes-of-requires : (t : ℕ) → eval-lts.Need-nodes-of-requires (eval-calls t) (eval-at t) eval.Post
 nodes-of-requires t c κs = tt
 
--- src/eval.rt:280:9
+-- src/eval.rt:209:9
 pub returns : (t : ℕ) → eval-lts.Need-returns (eval-calls t) (eval-at t) eval.Post
 returns t c =
     let a = c .before .before .before .before .before .before .args in
     past-arm (tablesOf (a .set .now)) (planAt (a .plan .now) (a .at)) (envOf (a .env .now)) (a .cells .now) (plan-past (a .plan .now) (a .at) (omega (arith, c .if1 .taken, c .before .nodes-of .ensures .0)))
 
--- src/eval.rt:282:9
+-- src/eval.rt:211:9
 pub node-at-requires : (t : ℕ) → eval-lts.Need-node-at-requires (eval-calls t) (eval-at t) eval.Post
 node-at-requires t c κs = tt
 
--- src/eval.rt:283:9
+-- src/eval.rt:212:9
 pub children-of-requires : (t : ℕ) → eval-lts.Need-children-of-requires (eval-calls t) (eval-at t) eval.Post
 children-of-requires t c κs = tt
 
--- src/eval.rt:285:9
+-- src/eval.rt:214:9
 pub leaf-requires : (t : ℕ) → eval-lts.Need-leaf-requires (eval-calls t) (eval-at t) eval.Post
 leaf-requires t c κs =
     let a = c .before .before .before .before .before .before .before .before .before .before .args in
     leaf-room (childless-at (tablesOf (a .set .now)) (a .plan .now) (a .at) (c .before .before .before .node-at .result) (here t (c .before .before .before .before)) (c .before .before .before .node-at .ensures) (sym (kinds t (c .before .before)) ∙ c .before .if2 .taken)) (c .before .before .before .before .before .before .before .before .before .before .pre .1)
 
--- src/eval.rt:285:9
+-- src/eval.rt:214:9
 pub same-length : (t : ℕ) → eval-lts.Need-same-length (eval-calls t) (eval-at t) eval.Post
 same-length t c = c .before .before .leaf .kept .1 .1 .0
 
--- src/eval.rt:285:9
+-- src/eval.rt:214:9
 pub returns-2 : (t : ℕ) → eval-lts.Need-returns-2 (eval-calls t) (eval-at t) eval.Post
 returns-2 t c =
     let a = c .before .before .before .before .before .before .before .before .before .before .before .before .before .args in
     leaf-arm (childless-at (tablesOf (a .set .now)) (a .plan .now) (a .at) (c .before .before .before .before .before .before .node-at .result) (here t (c .before .before .before .before .before .before .before)) (c .before .before .before .before .before .before .node-at .ensures) (sym (kinds t (c .before .before .before .before .before)) ∙ c .before .before .before .before .if2 .taken)) (envOf (a .env .now)) (c .before .before .leaf .ensures)
 
--- src/eval.rt:287:9
+-- src/eval.rt:216:9
 pub share-at-requires : (t : ℕ) → eval-lts.Need-share-at-requires (eval-calls t) (eval-at t) eval.Post
 share-at-requires t c κs = c .before .before .before .before .before .before .before .before .before .pre .1 .sound
 
--- src/eval.rt:288:16
+-- src/eval.rt:217:16
 pub add-left : (t : ℕ) → eval-lts.Need-add-left (eval-calls t) (eval-at t) eval.Post
 add-left t c = omega (arith, here t (c .before .before .before .before), c .before .before .before .before .before .nodes-of .ensures)
 
--- src/eval.rt:289:35
+-- src/eval.rt:218:35
 pub mul-eval : (t : ℕ) → eval-lts.Need-mul-eval (eval-calls t) (eval-at t) eval.Post
 mul-eval t c = omega (arith, c .share-at .ensures .1)
 
--- src/eval.rt:289:35
+-- src/eval.rt:218:35
 pub sub-eval : (t : ℕ) → eval-lts.Need-sub-eval (eval-calls t) (eval-at t) eval.Post
 sub-eval t c = own-fits (c .before .before .before .before .before .before .before .before .before .before .pre .1) (first t (c .before)) (c .share-at .ensures .0)
 
--- src/eval.rt:289:35
+-- src/eval.rt:218:35
 pub part-eval-start : (t : ℕ) → eval-lts.Need-part-eval-start (eval-calls t) (eval-at t) eval.Post
 part-eval-start t c = own-fits (c .before .before .before .before .before .before .before .before .before .before .pre .1) (first t (c .before)) (c .share-at .ensures .0)
 
--- src/eval.rt:289:35
+-- src/eval.rt:218:35
 pub part-eval-end : (t : ℕ) → eval-lts.Need-part-eval-end (eval-calls t) (eval-at t) eval.Post
 part-eval-end t c = omega arith
 
--- src/eval.rt:289:9
+-- src/eval.rt:218:9
 pub eval-requires : (t : ℕ) → eval-lts.Need-eval-requires (eval-calls t) (eval-at t) eval.Post
 eval-requires t c κs = (omega (arith, first t (c .before .before) .smaller, c .before .before .before .before .before .before .before .before .before .before .before .pre .0), child-ready (c .before .before .before .before .before .before .before .before .before .before .before .pre .1) (first t (c .before .before)) (c .before .share-at .ensures .0) _ (tail-length (c .before .share-at .result) (c .before .before .before .before .before .before .before .before .before .before .before .args .cells .now)))
 
--- src/eval.rt:291:9
+-- src/eval.rt:220:9
 pub unary-at-requires : (t : ℕ) → eval-lts.Need-unary-at-requires (eval-calls t) (eval-at t) eval.Post
 unary-at-requires t c κs =
     let R = c .before .before .before .before .before .before .before .before .before .before .before .before .before .before .before .before .pre .1 in
@@ -165,34 +165,34 @@ unary-at-requires t c κs =
     let sound = F .sound (R .sound) in
     ((sound, sym (kinds t (c .before .before .before .before .before .before .before .before)) ∙ c .before .if3 .taken, R .bound, omega (arith, few, sound-bound sound)), rw (back t (c .before .before .before .before) .0) (unary-room (only t (c .before)) _ R F (c .before .before .before .before .before .before .share-at .ensures .0) few))
 
--- src/eval.rt:291:9
+-- src/eval.rt:220:9
 pub same-length-2 : (t : ℕ) → eval-lts.Need-same-length-2 (eval-calls t) (eval-at t) eval.Post
 same-length-2 t c = c .before .before .unary-at .kept .1 .1 .1 .1 .0 ∙ back t (c .before .before .before .before .before .before .before) .0
 
--- src/eval.rt:291:9
+-- src/eval.rt:220:9
 pub returns-3 : (t : ℕ) → eval-lts.Need-returns-3 (eval-calls t) (eval-at t) eval.Post
 returns-3 t c =
     let a = c .before .before .before .before .before .before .before .before .before .before .before .before .before .before .before .before .before .before .before .args in
     let own = c .before .before .before .before .before .before .before .before .before .share-at .result in
     unary-arm (only t (c .before .before .before .before)) own (length (a .cells .now) - own) (a .cells .now) (own-fits (c .before .before .before .before .before .before .before .before .before .before .before .before .before .before .before .before .before .before .before .pre .1) (first t (c .before .before .before .before .before .before .before .before .before .before)) (c .before .before .before .before .before .before .before .before .before .share-at .ensures .0)) (back t (c .before .before .before .before .before .before .before) .1) (c .before .before .unary-at .ensures)
 
--- src/eval.rt:293:9
+-- src/eval.rt:222:9
 pub tree-end-requires : (t : ℕ) → eval-lts.Need-tree-end-requires (eval-calls t) (eval-at t) eval.Post
 tree-end-requires t c κs = tt
 
--- src/eval.rt:294:24
+-- src/eval.rt:223:24
 pub tree-part-requires : (t : ℕ) → eval-lts.Need-tree-part-requires (eval-calls t) (eval-at t) eval.Post
 tree-part-requires t c κs = first t (c .before .before .before .before .before .before .before) .sound (c .before .before .before .before .before .before .before .before .before .before .before .before .before .before .before .before .pre .1 .sound)
 
--- src/eval.rt:294:18
+-- src/eval.rt:223:18
 pub add-behind : (t : ℕ) → eval-lts.Need-add-behind (eval-calls t) (eval-at t) eval.Post
 add-behind t c = omega (arith, within t c, c .before .before .before .before .before .before .before .before .before .before .before .before .before .before .before .before .before .good)
 
--- src/eval.rt:295:8
+-- src/eval.rt:224:8
 pub runs-once-requires : (t : ℕ) → eval-lts.Need-runs-once-requires (eval-calls t) (eval-at t) eval.Post
 runs-once-requires t c κs = tt
 
--- src/eval.rt:296:9
+-- src/eval.rt:225:9
 pub nested-at-requires : (t : ℕ) → eval-lts.Need-nested-at-requires (eval-calls t) (eval-at t) eval.Post
 nested-at-requires t c κs =
     let R = c .before .before .before .before .before .before .before .before .before .before .before .before .before .before .before .before .before .before .before .before .pre .1 in
@@ -209,34 +209,34 @@ nested-at-requires t c κs =
       ),
     )
 
--- src/eval.rt:296:9
+-- src/eval.rt:225:9
 pub same-length-3 : (t : ℕ) → eval-lts.Need-same-length-3 (eval-calls t) (eval-at t) eval.Post
 same-length-3 t c = c .before .before .nested-at .kept .1 .1 .1 .1 .1 .0 ∙ back t (c .before .before .before .before .before .before .before .before .before .before .before) .0
 
--- src/eval.rt:296:9
+-- src/eval.rt:225:9
 pub returns-4 : (t : ℕ) → eval-lts.Need-returns-4 (eval-calls t) (eval-at t) eval.Post
 returns-4 t c =
     let a = c .before .before .before .before .before .before .before .before .before .before .before .before .before .before .before .before .before .before .before .before .before .before .before .args in
     let own = c .before .before .before .before .before .before .before .before .before .before .before .before .before .share-at .result in
     nested-arm (both t (c .before .before .before .before .before .before .before)) own (length (a .cells .now) - own) (a .cells .now) (c .before .before .before .before .before .runs-once .ensures .nests (not-true _ (c .before .before .before .before .if4 .taken))) (own-fits (c .before .before .before .before .before .before .before .before .before .before .before .before .before .before .before .before .before .before .before .before .before .before .before .pre .1) (first t (c .before .before .before .before .before .before .before .before .before .before .before .before .before .before)) (c .before .before .before .before .before .before .before .before .before .before .before .before .before .share-at .ensures .0)) (back t (c .before .before .before .before .before .before .before .before .before .before .before) .1) (c .before .before .nested-at .ensures)
 
--- src/eval.rt:298:36
+-- src/eval.rt:227:36
 pub mul-eval-2 : (t : ℕ) → eval-lts.Need-mul-eval-2 (eval-calls t) (eval-at t) eval.Post
 mul-eval-2 t c = omega (arith, within t (c .before .before), c .before .before .before .before .before .before .before .before .before .before .before .before .before .before .before .before .before .before .before .good)
 
--- src/eval.rt:298:36
+-- src/eval.rt:227:36
 pub sub-eval-2 : (t : ℕ) → eval-lts.Need-sub-eval-2 (eval-calls t) (eval-at t) eval.Post
 sub-eval-2 t c = beyond t (c .before .before)
 
--- src/eval.rt:298:36
+-- src/eval.rt:227:36
 pub part-eval-start-2 : (t : ℕ) → eval-lts.Need-part-eval-start-2 (eval-calls t) (eval-at t) eval.Post
 part-eval-start-2 t c = beyond t (c .before .before)
 
--- src/eval.rt:298:36
+-- src/eval.rt:227:36
 pub part-eval-end-2 : (t : ℕ) → eval-lts.Need-part-eval-end-2 (eval-calls t) (eval-at t) eval.Post
 part-eval-end-2 t c = omega arith
 
--- src/eval.rt:298:9
+-- src/eval.rt:227:9
 pub eval-requires-2 : (t : ℕ) → eval-lts.Need-eval-requires-2 (eval-calls t) (eval-at t) eval.Post
 eval-requires-2 t c κs =
     let a = c .before .before .before .before .before .before .before .before .before .before .before .before .before .before .before .before .before .before .before .before .args in
@@ -248,7 +248,7 @@ eval-requires-2 t c κs =
       inner-ready (both t (c .before .before .before .before)) (c .before .before .before .before .before .before .before .before .before .before .before .before .before .before .before .before .before .before .before .before .pre .1) (first t (c .before .before .before .before .before .before .before .before .before .before .before)) (c .before .before .before .before .before .before .before .before .before .before .share-at .ensures .0) b _ (tail-length behind cells ∙ ap (λ (x : ℕ). x - behind) (back t (c .before .before .before .before .before .before .before .before) .0)),
     )
 
--- src/eval.rt:299:5
+-- src/eval.rt:228:5
 pub binary-at-requires : (t : ℕ) → eval-lts.Need-binary-at-requires (eval-calls t) (eval-at t) eval.Post
 binary-at-requires t c κs =
     let R = c .before .before .before .before .before .before .before .before .before .before .before .before .before .before .before .before .before .before .before .before .before .before .before .before .pre .1 in
@@ -263,11 +263,11 @@ binary-at-requires t c κs =
       ((omega (arith, few₂, sound-bound sound₂), few-of D R F o b _ _ few few₂, omega (arith, right-inside D R F o b _ few₂, back₂ t (c .before .before .before) .0)), loop-room D R F o b _ _ few few₂),
     )
 
--- src/eval.rt:275:1
+-- src/eval.rt:204:1
 pub same-length-4 : (t : ℕ) → eval-lts.Need-same-length-4 (eval-calls t) (eval-at t) eval.Post
 same-length-4 t c = c .before .before .binary-at .kept .1 .1 .1 .1 .1 .0 ∙ back₂ t (c .before .before .before .before .before .before) .0
 
--- src/eval.rt:275:1
+-- src/eval.rt:204:1
 pub returns-5 : (t : ℕ) → eval-lts.Need-returns-5 (eval-calls t) (eval-at t) eval.Post
 returns-5 t c =
     let a = c .before .before .before .before .before .before .before .before .before .before .before .before .before .before .before .before .before .before .before .before .before .before .before .before .before .before .before .args in

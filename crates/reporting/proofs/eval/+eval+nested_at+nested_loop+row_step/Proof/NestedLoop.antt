@@ -72,19 +72,19 @@ grows t c =
     let ends = turn-ends (l .inv .0) (c .before .before .loop-test .taken) op (λ e. keeps-rows op (s .0 .0) e (a .ids .now) ds k) (room .share) (r .result) (r .ensures .gives .few) in
     omega (arith, ends, in-row t (c .before .before) .0 .apart, ap (λ (x : ℕ). r .result * x) (wide t (c .before .before .before .before .before)))
 
--- src/eval.rt:206:9
+-- src/eval.rt:133:9
 pub emitted-width-requires : (t : ℕ) → nested-loop-lts.Need-emitted-width-requires (nested-loop-calls t) (nested-loop-at t) nested-loop.Post Inv-loop μ-loop
 emitted-width-requires t c κs = let s = c .before .before .before .before .before .before .pre .1 in (s .0 .0, s .0 .2, omega (arith, ap length (s .0 .1), sound-width (s .1 .1 .1 .sound)))
 
--- src/eval.rt:211:5
+-- src/eval.rt:138:5
 pub find-requires : (t : ℕ) → nested-loop-lts.Need-find-requires (nested-loop-calls t) (nested-loop-at t) nested-loop.Post Inv-loop μ-loop
 find-requires t c κs = c .before .before .before .before .before .before .before .pre .1 .1 .1 .1 .bound
 
--- src/eval.rt:211:5
+-- src/eval.rt:138:5
 pub loop-holds : (t : ℕ) → nested-loop-lts.Need-loop-holds (nested-loop-calls t) (nested-loop-at t) nested-loop.Post Inv-loop μ-loop
 loop-holds t c = (building-start (c .before .before .before .before .before .before .before .before .args .cells .now) refl, refl)
 
--- src/eval.rt:212:13
+-- src/eval.rt:139:13
 pub row-step-requires : (t : ℕ) → nested-loop-lts.Need-row-step-requires (nested-loop-calls t) (nested-loop-at t) nested-loop.Post Inv-loop μ-loop
 row-step-requires t c κs =
     let s = c .before .before .before .before .before .before .before .before .before .before .before .pre .1 in
@@ -92,31 +92,31 @@ row-step-requires t c κs =
     let l = c .before .before .loop in
     (omega (arith, c .before .before .before .before .before .before .before .before .before .before .before .pre .0), (c .before .before .before .find .ensures, ((s .0 .0, s .0 .1, omega (arith, l .inv .1, s .0 .3)), (rw (s .0 .1) (in-row t (c .before) .0), record { sound = r .sound; room = rw (l .inv .1) (r .room); bound = r .bound }))))
 
--- src/eval.rt:225:9
+-- src/eval.rt:152:9
 pub add-out : (t : ℕ) → nested-loop-lts.Need-add-out (nested-loop-calls t) (nested-loop-at t) nested-loop.Post Inv-loop μ-loop
 add-out t c = omega (arith, in-row t (c .before .before .before .before) .1, c .before .before .row-step .ensures .gives .few)
 
--- src/eval.rt:226:16
+-- src/eval.rt:153:16
 pub mul-dst : (t : ℕ) → nested-loop-lts.Need-mul-dst (nested-loop-calls t) (nested-loop-at t) nested-loop.Post Inv-loop μ-loop
 mul-dst t c = omega (arith, grows t (c .before .before), c .before .before .before .before .before .before .before .before .before .before .before .before .before .before .fits .behind)
 
--- src/eval.rt:226:9
+-- src/eval.rt:153:9
 pub add-dst : (t : ℕ) → nested-loop-lts.Need-add-dst (nested-loop-calls t) (nested-loop-at t) nested-loop.Post Inv-loop μ-loop
 add-dst t c = omega (arith, grows t (c .before .before), c .before .before .before .before .before .before .before .before .before .before .before .before .before .before .fits .behind)
 
--- src/eval.rt:227:9
+-- src/eval.rt:154:9
 pub add-i : (t : ℕ) → nested-loop-lts.Need-add-i (nested-loop-calls t) (nested-loop-at t) nested-loop.Post Inv-loop μ-loop
 add-i t c = omega (arith, c .before .before .before .before .loop-test .taken, c .before .before .before .before .before .before .before .before .before .before .before .before .before .before .fits .m)
 
--- src/eval.rt:228:9
+-- src/eval.rt:155:9
 pub add-src : (t : ℕ) → nested-loop-lts.Need-add-src (nested-loop-calls t) (nested-loop-at t) nested-loop.Post Inv-loop μ-loop
 add-src t c = omega (arith, in-row t (c .before .before .before .before) .0 .apart, c .before .before .before .before .before .before .before .before .before .before .before .before .before .before .fits .behind)
 
--- src/eval.rt:211:5
+-- src/eval.rt:138:5
 pub loop-less : (t : ℕ) → nested-loop-lts.Need-loop-less (nested-loop-calls t) (nested-loop-at t) nested-loop.Post Inv-loop μ-loop
 loop-less t c = omega (arith, c .before .before .before .before .loop-test .taken)
 
--- src/eval.rt:211:5
+-- src/eval.rt:138:5
 pub loop-again : (t : ℕ) → nested-loop-lts.Need-loop-again (nested-loop-calls t) (nested-loop-at t) nested-loop.Post Inv-loop μ-loop
 loop-again t c =
     let a = c .before .before .before .before .before .before .before .before .before .before .before .before .before .before .args in
@@ -128,10 +128,10 @@ loop-again t c =
     let left = rows-left (a .m) w (a .own) (l .i) (l .src) (a .behind) last (l .cells) h (l .inv .0 .src-at) (c .before .before .before .before .before .before .before .before .before .before .before .before .before .before .pre .1 .1 .1 .0 .apart) (s .ensures .between) in
     (building-turn (l .inv .0) last (s .result) _ _ h (s .ensures .gives) (s .ensures .before) left refl (ap (λ (x : ℕ). l .dst + s .result * x) (wide t (c .before .before .before .before .before .before .before))), s .kept .1 .1 .1 .1 .1 .0 ∙ l .inv .1)
 
--- src/eval.rt:185:1
+-- src/eval.rt:112:1
 pub same-length : (t : ℕ) → nested-loop-lts.Need-same-length (nested-loop-calls t) (nested-loop-at t) nested-loop.Post Inv-loop μ-loop
 same-length t c = c .before .loop .inv .1
 
--- src/eval.rt:185:1
+-- src/eval.rt:112:1
 pub returns : (t : ℕ) → nested-loop-lts.Need-returns (nested-loop-calls t) (nested-loop-at t) nested-loop.Post Inv-loop μ-loop
 returns t c = building-done (c .before .loop .inv .0) (c .loop-test .left)

@@ -42,62 +42,62 @@ back t c =
     let len : length last ≡ length cells - a .behind = c .eval .kept .1 .1 .1 .0 ∙ tail-length (a .behind) cells in
     (same-len-mid (a .behind) (length cells - a .behind) cells last (c .eval .kept .1 .1 .1 .0), kid-of (record { sound = r .sound; room = rw len (r .room); bound = r .bound }) (c .eval .ensures))
 
--- src/eval.rt:179:15
+-- src/eval.rt:104:15
 pub slice-aggregate-inner-env : (t : ℕ) → row-step-lts.Need-slice-aggregate-inner-env (row-step-calls t) (row-step-at t) row-step.Post
 slice-aggregate-inner-env t c = refl
 
--- src/eval.rt:179:50
+-- src/eval.rt:104:50
 pub add-inner-env : (t : ℕ) → row-step-lts.Need-add-inner-env (row-step-calls t) (row-step-at t) row-step.Post
 add-inner-env t c = omega (arith, c .before .before .before .before .before .before .before .pre .1 .1 .1 .0 .apart, c .before .before .before .before .before .before .before .pre .1 .1 .0 .2, c .before .before .before .before .before .before .before .good, c .before .before .before .before .before .before .before .fits .behind)
 
--- src/eval.rt:179:38
+-- src/eval.rt:104:38
 pub mul-inner-env : (t : ℕ) → row-step-lts.Need-mul-inner-env (row-step-calls t) (row-step-at t) row-step.Post
 mul-inner-env t c = omega (arith, c .before .before .before .before .before .before .before .pre .1 .1 .1 .0 .apart, c .before .before .before .before .before .before .before .pre .1 .1 .0 .2, c .before .before .before .before .before .before .before .good, c .before .before .before .before .before .before .before .fits .behind)
 
--- src/eval.rt:179:38
+-- src/eval.rt:104:38
 pub sub-inner-env : (t : ℕ) → row-step-lts.Need-sub-inner-env (row-step-calls t) (row-step-at t) row-step.Post
 sub-inner-env t c = omega (arith, c .before .before .before .before .before .before .before .pre .1 .1 .1 .0 .apart, c .before .before .before .before .before .before .before .pre .1 .1 .0 .2, c .before .before .before .before .before .before .before .good, c .before .before .before .before .before .before .before .fits .behind)
 
--- src/eval.rt:179:38
+-- src/eval.rt:104:38
 pub part-inner-env-start : (t : ℕ) → row-step-lts.Need-part-inner-env-start (row-step-calls t) (row-step-at t) row-step.Post
 part-inner-env-start t c = omega (arith, c .before .before .before .before .before .before .before .before .pre .1 .1 .1 .0 .apart, c .before .before .before .before .before .before .before .before .pre .1 .1 .0 .2, c .before .before .before .before .before .before .before .before .good, c .before .before .before .before .before .before .before .before .fits .behind)
 
--- src/eval.rt:179:38
+-- src/eval.rt:104:38
 pub part-inner-env-end : (t : ℕ) → row-step-lts.Need-part-inner-env-end (row-step-calls t) (row-step-at t) row-step.Post
 part-inner-env-end t c = omega (arith, c .before .before .before .before .before .before .before .before .pre .1 .1 .1 .0 .apart, c .before .before .before .before .before .before .before .before .pre .1 .1 .0 .2, c .before .before .before .before .before .before .before .before .good, c .before .before .before .before .before .before .before .before .fits .behind)
 
--- src/eval.rt:179:5
+-- src/eval.rt:104:5
 pub inner-env-requires : (t : ℕ) → row-step-lts.Need-inner-env-requires (row-step-calls t) (row-step-at t) row-step.Post
 inner-env-requires t c κs = let a = c .before .before .before .before .before .before .before .before .before .args in let s = c .before .before .before .before .before .before .before .before .before .pre .1 .1 .1 in omega (arith, part-length (a .src) (length (a .ids .now)) (a .cells .now) (omega (arith, s .0 .apart, c .before .before .before .before .before .before .before .before .before .pre .1 .1 .0 .2)), s .1 .bound)
 
--- src/eval.rt:180:36
+-- src/eval.rt:105:36
 pub mul-eval : (t : ℕ) → row-step-lts.Need-mul-eval (row-step-calls t) (row-step-at t) row-step.Post
 mul-eval t c = omega (arith, c .before .before .before .before .before .before .before .before .before .before .before .pre .1 .1 .0 .2, c .before .before .before .before .before .before .before .before .before .before .before .good)
 
--- src/eval.rt:180:36
+-- src/eval.rt:105:36
 pub sub-eval : (t : ℕ) → row-step-lts.Need-sub-eval (row-step-calls t) (row-step-at t) row-step.Post
 sub-eval t c = c .before .before .before .before .before .before .before .before .before .before .before .pre .1 .1 .0 .2
 
--- src/eval.rt:180:36
+-- src/eval.rt:105:36
 pub part-eval-start : (t : ℕ) → row-step-lts.Need-part-eval-start (row-step-calls t) (row-step-at t) row-step.Post
 part-eval-start t c = c .before .before .before .before .before .before .before .before .before .before .before .pre .1 .1 .0 .2
 
--- src/eval.rt:180:36
+-- src/eval.rt:105:36
 pub part-eval-end : (t : ℕ) → row-step-lts.Need-part-eval-end (row-step-calls t) (row-step-at t) row-step.Post
 part-eval-end t c = omega arith
 
--- src/eval.rt:180:58
+-- src/eval.rt:105:58
 pub slice-aggregate-eval : (t : ℕ) → row-step-lts.Need-slice-aggregate-eval (row-step-calls t) (row-step-at t) row-step.Post
 slice-aggregate-eval t c = sym (c .before .before .before .inner-env .kept .0)
 
--- src/eval.rt:180:9
+-- src/eval.rt:105:9
 pub eval-requires : (t : ℕ) → row-step-lts.Need-eval-requires (row-step-calls t) (row-step-at t) row-step.Post
 eval-requires t c κs =
     let a = c .before .before .before .before .before .before .before .before .before .before .before .before .before .args in
     let r = c .before .before .before .before .before .before .before .before .before .before .before .before .before .pre .1 .1 .1 .1 in
     (omega (arith, c .before .before .before .before .before .before .before .before .before .before .before .before .before .pre .0), record { sound = r .sound; room = rw (tail-length (a .behind) (a .cells .now)) (r .room); bound = c .before .before .before .inner-env .kept .0 })
 
--- src/eval.rt:181:5
+-- src/eval.rt:106:5
 pub emit-row-requires : (t : ℕ) → row-step-lts.Need-emit-row-requires (row-step-calls t) (row-step-at t) row-step.Post
 emit-row-requires t c κs =
     let a = c .before .before .before .before .before .before .before .before .before .before .before .before .before .before .before .before .before .args in
@@ -109,11 +109,11 @@ emit-row-requires t c κs =
       (step-less k (s .1 .0) (g .few), omega (arith, s .0 .2, rows-fit k r (g .few), ap (λ (x : List ℕ). k * length x) (s .0 .1), back t (c .before .before .before) .0)),
     )
 
--- src/eval.rt:158:1
+-- src/eval.rt:83:1
 pub same-length : (t : ℕ) → row-step-lts.Need-same-length (row-step-calls t) (row-step-at t) row-step.Post
 same-length t c = c .before .before .emit-row .kept .1 .1 .0 ∙ back t (c .before .before .before .before .before .before) .0
 
--- src/eval.rt:158:1
+-- src/eval.rt:83:1
 pub returns : (t : ℕ) → row-step-lts.Need-returns (row-step-calls t) (row-step-at t) row-step.Post
 returns t c =
     let a = c .before .before .before .before .before .before .before .before .before .before .before .before .before .before .before .before .before .before .before .before .args in
