@@ -34,7 +34,7 @@ pub enum Test {
     Number {
         comparison: u8,
         left: u8,
-        number: u32,
+        number: u64,
     },
 }
 
@@ -113,7 +113,7 @@ fn list_allowed(has: u8, node: &[u8]) -> bool
     list_ends(node, listed)
 }
 
-fn test_number(node: &[u8]) -> u32
+fn test_number(node: &[u8]) -> u64
     ensures { λ r. ⌜ r ≡ wordOf (u32At (now (node .entry)) 20) ⌝ }
 {
     word(

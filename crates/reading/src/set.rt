@@ -26,15 +26,15 @@ const TABLE_MARK: [u8; 5] = [84, 66, 76, 1, 0];
 // ---- Cells
 
 // The word of a cell's four bytes: its signed code plus 2^31.
-pub fn word(b0: u8, b1: u8, b2: u8, b3: u8) -> u32
+pub fn word(b0: u8, b1: u8, b2: u8, b3: u8) -> u64
     ensures { λ r. ⌜ r ≡ wordOf (b0 + 256 * b1 + 65536 * b2 + 16777216 * b3) ⌝ }
 {
     let x = b0 as u64 + 256 * (b1 as u64) + 65536 * (b2 as u64) + 16777216 * (b3 as u64);
-    ((x + 2147483648) % 4294967296) as u32
+    (x + 2147483648) % 4294967296
 }
 
 // The word of cell i of a table's cells; past the last cell it is blank, 0.
-pub fn cell(cells: &[u8], i: usize) -> u32
+pub fn cell(cells: &[u8], i: usize) -> u64
     ensures { λ r. ⌜ r ≡ cellAt (now (cells .entry)) i ⌝ }
 {
     if i < cells.len() / 4 {
@@ -46,7 +46,7 @@ pub fn cell(cells: &[u8], i: usize) -> u32
 }
 
 // Whether a word is that of a number in the cell range.
-pub fn number_word(w: u32) -> bool
+pub fn number_word(w: u64) -> bool
     ensures { λ r. ⌜ r ≡ inRange w ⌝ }
 {
     if w < 147483648 {
@@ -56,7 +56,7 @@ pub fn number_word(w: u32) -> bool
 }
 
 // Blank, off scale, or a number in the cell range.
-fn cell_allowed(w: u32) -> bool
+fn cell_allowed(w: u64) -> bool
     ensures { λ r. ⌜ r ≡ cellAllowed w ⌝ }
 {
     if w == 0 {
