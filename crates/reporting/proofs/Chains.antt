@@ -14,11 +14,11 @@ use Rattle.algebra.specs.Plans.{Row}
 use Rattle.algebra.proofs.Lists.{filter-length, any-count}
 use Rattle.reading.proofs.Places.{upward-length}
 use Rattle.reporting.specs.Rows.{chunk}
-use Rattle.reporting.specs.Index.{bucketOf, slotOf, mixed, nth, downward, inBucket, chain, Index}
+use Rattle.reporting.specs.Index.{halves, bucketOf, slotOf, mixed, nth, downward, inBucket, chain, Index}
 use Rattle.reporting.proofs.Numbers.{Each, each-filter, each-upward, each-downward, filter-each, downward-length, any-downward, filter-nth, bucket-filter, bucket-any, cell-nth}
 
 -- ---- the number of a row, cell by cell
-pub mixed-next : (row : Row) (h h′ i : ℕ) → i < length row → h′ ≡ (h * 2654435761 + getD row i 0) % 4294967296 → mixed h (drop i row) ≡ mixed h′ (drop (i + 1) row)
+pub mixed-next : (row : Row) (h h′ i : ℕ) → i < length row → h′ ≡ (h * 2654435761 + halves (getD row i 0)) % 4294967296 → mixed h (drop i row) ≡ mixed h′ (drop (i + 1) row)
 unfolding mixed
 mixed-next row h h′ i l e = ap (mixed h) (drop-cons row i 0 l) ∙ ap₂ (λ (x n : ℕ). mixed x (drop n row)) (sym e) (sym (add-one i))
 

@@ -130,11 +130,11 @@ module _ (node : Node) (cs ds : List ℕ) (env : Env) (f : Found) (found : Found
       ∙ ap (λ (g : Aggregate). aggregate g (foundCells f l rs)) (found .code ∙ aggregate-of node ∙ ap (λ (b : Bool). cond b (nodeAggregate node) count) no-aggregate)
       ∙ ap (λ (n : ℕ). origin + n) (length-map (filter (meets f l) rs) (sideCell (f .measured) l))
 
-  pub kept-counted : (l : Row) (rs : List Row) (cell : ℕ) → cell ≡ foundCell f l rs → keepsRow (node .kind) f l rs ≡ flip (eqb (node .kind) 7) (not (eqb cell 2147483648))
+  pub kept-counted : (l : Row) (rs : List Row) (cell : ℕ) → cell ≡ foundCell f l rs → keepsRow (node .kind) f l rs ≡ flip (eqb (node .kind) 7) (not (eqb cell 9223372036854775808))
   kept-counted l rs cell e =
       keeps-other (node .kind) f l rs (λ n. omega arith)
       ∙ ap (flip (eqb (node .kind) 7)) (any-count (meets f l) rs ∙ some-counted (length (filter (meets f l) rs)) (e ∙ counted l rs))
     where
-      some-counted : (n : ℕ) → cell ≡ 2147483648 + n → ltb 0 n ≡ not (eqb cell 2147483648)
-      some-counted zero h = le-ltb 0 0 (omega arith) ∙ ap not (sym (eq-eqb cell 2147483648 (omega (arith, h))))
-      some-counted (suc n) h = lt-ltb 0 (suc n) (omega arith) ∙ ap not (sym (ne-eqb cell 2147483648 (λ z. omega (arith, h, z))))
+      some-counted : (n : ℕ) → cell ≡ 9223372036854775808 + n → ltb 0 n ≡ not (eqb cell 9223372036854775808)
+      some-counted zero h = le-ltb 0 0 (omega arith) ∙ ap not (sym (eq-eqb cell 9223372036854775808 (omega (arith, h))))
+      some-counted (suc n) h = lt-ltb 0 (suc n) (omega arith) ∙ ap not (sym (ne-eqb cell 9223372036854775808 (λ z. omega (arith, h, z))))

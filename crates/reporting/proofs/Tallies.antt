@@ -1,22 +1,22 @@
 -- Adding a cell keeps what a tally says, and every aggregate is read off it. Assumes nothing.
-use Prim.Native.Nat.{ℕ, suc, _+_, _≤_, _<_, min, max}
+use Prim.Native.Nat.{ℕ, suc, _+_, _*_, _-_, _/_, _%_, _≤_, _<_, min, max}
 use mathlib.Core.Path.{_≡_, refl, sym, ap, _∙_, subst}
 use mathlib.Core.Bool.{Bool, true, false, not, cond, _&&_, _||_}
 use mathlib.Core.List.{List, [], _∷_, _++_, foldr, append-nil, append-assoc}
 use native.Mathlib.Nat.{add-comm, add-assoc, min-comm, max-comm}
 use native.Mathlib.Omega.{arith}
-use lib.Dec.{eqb, ltb}
+use lib.Dec.{eqb, ltb, leb}
 use lib.ListN.{length, take, length-append}
-use borrow.Author.Tests.{eqb-true, ne-eqb, lt-ltb}
+use borrow.Author.Tests.{eqb-true, leb-true, leb-false, ne-eqb, lt-ltb, le-leb, lt-leb}
 use Rattle.algebra.specs.Lists.{filter, any, total}
-use Rattle.algebra.specs.Cells.{Aggregate, count, over, Summary, sum, least, greatest, blank, offScale, origin, isBlank, needsAll, sumOf, summary, aggregate}
+use Rattle.algebra.specs.Cells.{Aggregate, count, over, Summary, sum, least, greatest, blank, offScale, origin, reach, inRange, isBlank, needsAll, sumOf, summary, aggregate}
 use Rattle.algebra.specs.Plans.{Row}
 use Rattle.algebra.proofs.Lists.{filter-length}
 use Rattle.algebra.proofs.Cells.{eqb-sym}
 use Rattle.algebra.proofs.Places.{next-less}
 use Rattle.reading.specs.Tree.{aggregateOf}
 use Rattle.reporting.specs.Sides.{sideCell, FoundInside, meets, foundCells, foundCell}
-use Rattle.reporting.specs.Tallies.{notBlank, Tallies, Bounded, lesser, added, tallySummary, tallied}
+use Rattle.reporting.specs.Tallies.{notBlank, sumIn, Tallies, Bounded, lesser, added, tallySummary, tallied}
 use Rattle.reporting.specs.declared.gather.Tally.{Tally}
 use Rattle.reporting.specs.declared.side.Found.{Found}
 use Rattle.reporting.proofs.Meets.{cells-met, cells-not-met, cells-few, cells-none}
@@ -85,44 +85,49 @@ tallies-add xs t x says = record {
     Says : Bool → Type 0
     Says b =
         (cond b (t .numbers) (t .numbers + 1) ≡ length last)
-        × (t .sum + x ≡ total last)
+        × (t .low + x % 4294967296 + 4294967296 * (t .high + x / 4294967296) ≡ total last)
         × (cond b (t .least) (lesser (t .numbers) (t .least) x) ≡ summary least last)
         × (max x (t .greatest) ≡ summary greatest last)
+
+    -- the halves of one cell more, added each to its own sum
+    joined : t .low + x % 4294967296 + 4294967296 * (t .high + x / 4294967296) ≡ x + sumIn t
+    joined = omega arith
 
     go : (b : Bool) → eqb x blank ≡ b → Says b
     go true e =
         let same : last ≡ ns = filter-last (λ y. not (eqb y blank)) x xs ∙ ap (λ (b : Bool). ns ++ cond (not b) (x ∷ []) []) e ∙ append-nil ns in
         let none : x ≡ 0 = eqb-true x blank e in (
           says .numbered ∙ sym (ap length same),
-          omega (arith, says .summed, ap total same),
+          omega (arith, joined, says .summed, ap total same),
           says .lowest ∙ sym (ap (summary least) same),
           omega (arith, says .highest, ap (summary greatest) same),
         )
     go false e =
         let more : last ≡ ns ++ (x ∷ []) = filter-last (λ y. not (eqb y blank)) x xs ∙ ap (λ (b : Bool). ns ++ cond (not b) (x ∷ []) []) e in (
           ap (λ (n : ℕ). n + 1) (says .numbered) ∙ sym (ap length more ∙ length-last x ns),
-          add-comm (t .sum) x ∙ ap (λ (s : ℕ). x + s) (says .summed) ∙ sym (ap total more ∙ foldr-last _+_ add-assoc add-comm 0 x ns),
+          joined ∙ ap (λ (s : ℕ). x + s) (says .summed) ∙ sym (ap total more ∙ foldr-last _+_ add-assoc add-comm 0 x ns),
           (λ j. lesser (says .numbered j) (says .lowest j) x) ∙ sym (ap (summary least) more ∙ least-last x ns),
           ap (max x) (says .highest) ∙ sym (ap (summary greatest) more ∙ foldr-last max max-assoc max-comm blank x ns),
         )
 
 -- a blank is only counted
-pub added-blank : (t : Tally) → record { rows = t .rows + 1; numbers = t .numbers; sum = t .sum; least = t .least; greatest = t .greatest; off = t .off } ≡ added t blank
+pub added-blank : (t : Tally) → record { rows = t .rows + 1; numbers = t .numbers; low = t .low; high = t .high; least = t .least; greatest = t .greatest; off = t .off } ≡ added t blank
 unfolding added
 added-blank t =
-    let s : t .sum ≡ t .sum + 0 = omega arith in
+    let l : t .low ≡ t .low + 0 % 4294967296 = omega arith in
+    let h : t .high ≡ t .high + 0 / 4294967296 = omega arith in
     let g : t .greatest ≡ max 0 (t .greatest) = omega arith in
-    λ j. record { rows = t .rows + 1; numbers = t .numbers; sum = s j; least = t .least; greatest = g j; off = t .off }
+    λ j. record { rows = t .rows + 1; numbers = t .numbers; low = l j; high = h j; least = t .least; greatest = g j; off = t .off }
 
 -- any other cell, with what the code finds for it
-pub added-cell : (t : Tally) (x low high : ℕ) (off : Bool) → (x ≡ blank → ⊥) → low ≡ lesser (t .numbers) (t .least) x → high ≡ max x (t .greatest) → off ≡ (eqb x offScale || t .off)
-    → record { rows = t .rows + 1; numbers = t .numbers + 1; sum = t .sum + x; least = low; greatest = high; off = off } ≡ added t x
+pub added-cell : (t : Tally) (x lowest highest : ℕ) (off : Bool) → (x ≡ blank → ⊥) → lowest ≡ lesser (t .numbers) (t .least) x → highest ≡ max x (t .greatest) → off ≡ (eqb x offScale || t .off)
+    → record { rows = t .rows + 1; numbers = t .numbers + 1; low = t .low + x % 4294967296; high = t .high + x / 4294967296; least = lowest; greatest = highest; off = off } ≡ added t x
 unfolding added
-added-cell t x low high off h l g o =
+added-cell t x lowest highest off h l g o =
     let n : t .numbers + 1 ≡ cond (eqb x blank) (t .numbers) (t .numbers + 1) = rw (ne-eqb x blank h) in
-    let m : low ≡ cond (eqb x blank) (t .least) (lesser (t .numbers) (t .least) x) = rw (ne-eqb x blank h) l in
+    let m : lowest ≡ cond (eqb x blank) (t .least) (lesser (t .numbers) (t .least) x) = rw (ne-eqb x blank h) l in
     let p : off ≡ (eqb offScale x || t .off) = o ∙ ap (λ (b : Bool). b || t .off) (eqb-sym x offScale) in
-    λ j. record { rows = t .rows + 1; numbers = n j; sum = t .sum + x; least = m j; greatest = g j; off = p j }
+    λ j. record { rows = t .rows + 1; numbers = n j; low = t .low + x % 4294967296; high = t .high + x / 4294967296; least = m j; greatest = g j; off = p j }
 
 -- there are fewer numbers than cells where one is blank
 fewer-numbers : (xs : List ℕ) → ltb (length (notBlank xs)) (length xs) ≡ any isBlank xs
@@ -132,6 +137,25 @@ fewer-numbers (x ∷ xs) =
       | true ↦ lt-ltb (length (notBlank xs)) (suc (length xs)) (omega (arith, filter-length (λ y. not (isBlank y)) xs))
       | false ↦ sym (next-less (length (notBlank xs)) (length xs)) ∙ fewer-numbers xs
     ]
+
+-- the sum of n numbers whose cells add up to s, by the cell that lies as far from s as one zero from n zeros
+pub sum-in-range : (n s cell : ℕ) → cell + n * origin ≡ s + origin → sumOf n s ≡ cond (inRange cell) cell offScale
+sum-in-range n s cell e =
+    let low : leb (n * origin) (s + reach) ≡ leb (origin - reach) cell = same-test (n * origin) (s + reach) (origin - reach) cell (λ h. omega (arith, e)) (λ h. omega (arith, e)) in
+    let high : leb s (n * origin + reach) ≡ leb cell (origin + reach) = same-test s (n * origin + reach) cell (origin + reach) (λ h. omega (arith, e)) (λ h. omega (arith, e)) in
+    let is : s + origin - n * origin ≡ cell = omega (arith, e) in
+    λ j. cond (low j && high j) (is j) offScale
+  where
+    same-test : (a b c d : ℕ) → (a ≤ b → c ≤ d) → (c ≤ d → a ≤ b) → leb a b ≡ leb c d
+    same-test a b c d f g = go (leb a b) refl
+      where
+        go : (t : Bool) → leb a b ≡ t → t ≡ leb c d
+        go true h = sym (le-leb c d (f (leb-true a b h)))
+        go false h = by-other (leb c d) refl
+          where
+            by-other : (u : Bool) → leb c d ≡ u → false ≡ u
+            by-other true k = sym h ∙ le-leb a b (g (leb-true c d k))
+            by-other false k = refl
 
 -- every aggregate is read off it
 pub tallies-read : (g : Aggregate) (xs : List ℕ) (t : Tally) → Tallies xs t → aggregate g xs ≡ tallied g t

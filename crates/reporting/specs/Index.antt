@@ -11,9 +11,13 @@ use Rattle.algebra.specs.Plans.{Row}
 
 -- ---- buckets
 
+-- the lower 32 binary digits of a cell and those above them, added
+abbrev pub halves : ℕ → ℕ
+halves x = x % 4294967296 + x / 4294967296
+
 -- the bucket of a key: the upper 12 of the lower 32 binary digits of a product
 unfoldable pub bucketOf : ℕ → ℕ
-bucketOf key = key * 2654435761 % 4294967296 / 1048576
+bucketOf key = halves key % 4294967296 * 2654435761 % 4294967296 / 1048576
 
 -- the bucket of a row by its cell at a place
 abbrev pub slotOf : ℕ → Row → ℕ
@@ -22,7 +26,7 @@ slotOf place q = bucketOf (getD q place 0)
 -- the bucket of a row by all its cells: they are mixed into one number, from the first on
 unfoldable pub mixed : ℕ → Row → ℕ
 mixed h [] = h
-mixed h (x ∷ xs) = mixed ((h * 2654435761 + x) % 4294967296) xs
+mixed h (x ∷ xs) = mixed ((h * 2654435761 + halves x) % 4294967296) xs
 
 abbrev pub rowSlot : Row → ℕ
 rowSlot q = bucketOf (mixed 0 q)

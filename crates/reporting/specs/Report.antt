@@ -31,9 +31,9 @@ rowCount set plan = length (reportRows set plan)
 abbrev pub columnCount : List ℕ → List ℕ → ℕ
 columnCount set plan = length (reportColumns set plan)
 
--- A cell's signed 32-bit code: a cell is held as its code plus 2 ^ 31.
+-- A cell's signed 64-bit code: a cell is held as its code plus 2 ^ 63.
 unfoldable pub codeOf : ℕ → ℤ
-codeOf cell = pos cell -ℤ pos 2147483648
+codeOf cell = pos cell -ℤ pos 9223372036854775808
 
 -- its codes, row by row
 abbrev pub reportCodes : List ℕ → List ℕ → List ℤ

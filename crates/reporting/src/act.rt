@@ -16,11 +16,11 @@ use reading::plan::Node;
 // Select, Project, Distinct, Group, Sort: of the child's m rows at `own`, at the front.
 pub(crate) fn act(
     node: Node,
-    cells: &mut [u32],
+    cells: &mut [u64],
     own: usize,
     m: usize,
     ids: &[u8],
-    env: &[u32],
+    env: &[u64],
 ) -> usize
     requires { ⌜ (arity (operatorOf node) ≡ 1) × (length (now env) ≡ 256) × (m ≤ 4096) × (length (now ids) ≤ 32) ⌝ }
     requires { ⌜ UnaryRoom (operatorOf node) (now ids) own m (length (now cells)) ⌝ }

@@ -5,17 +5,17 @@ ghost use Rattle.algebra.specs.Cells.{isBlank, isNumber, isUnequal, order, comp
 ghost use Rattle.reading.specs.Tree.{comparisonOf};
 
 // Whether a cell is neither blank nor off scale.
-pub(crate) fn is_number(x: u32) -> bool
+pub(crate) fn is_number(x: u64) -> bool
     ensures { λ r. ⌜ r ≡ isNumber x ⌝ }
 {
     if x == 0 {
         return false;
     }
-    x != 4294967295
+    x != 18446744073709551615
 }
 
 // Whether two numbers stand in the order that a comparison asks for.
-fn ordered(comparison: u8, a: u32, b: u32) -> bool
+fn ordered(comparison: u8, a: u64, b: u64) -> bool
     ensures { λ r. ⌜ r ≡ order (comparisonOf comparison) a b ⌝ }
 {
     if comparison == 0 {
@@ -37,7 +37,7 @@ fn ordered(comparison: u8, a: u32, b: u32) -> bool
 }
 
 // Whether a comparison holds of a number and a cell that is none, on either side: ≠ does, of a blank.
-fn beside_number(comparison: u8, x: u32) -> bool
+fn beside_number(comparison: u8, x: u64) -> bool
     ensures { λ r. ⌜ r ≡ isBlank x && isUnequal (comparisonOf comparison) ⌝ }
 {
     if x != 0 {
@@ -47,7 +47,7 @@ fn beside_number(comparison: u8, x: u32) -> bool
 }
 
 // Two numbers compare as they are ordered; a number and a blank are unequal; no other comparison with a blank or off-scale side holds.
-pub(crate) fn compare(comparison: u8, a: u32, b: u32) -> bool
+pub(crate) fn compare(comparison: u8, a: u64, b: u64) -> bool
     ensures { λ r. ⌜ r ≡ compares (comparisonOf comparison) a b ⌝ }
 {
     let left = is_number(a);

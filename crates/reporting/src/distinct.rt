@@ -12,7 +12,7 @@ use crate::index::wide;
 use crate::rows::copy_row;
 
 // Whether two rows agree.
-fn same_row(a: &[u32], b: &[u32]) -> bool
+fn same_row(a: &[u64], b: &[u64]) -> bool
     requires { ⌜ length (now a) ≡ length (now b) ⌝ }
     ensures { λ r. ⌜ r ≡ same (now (a .entry)) (now (b .entry)) ⌝ }
 {
@@ -27,7 +27,7 @@ fn same_row(a: &[u32], b: &[u32]) -> bool
 }
 
 // Whether one of the first k rows is the row at src.
-fn seen(cells: &[u32], k: usize, src: usize, w: usize) -> bool
+fn seen(cells: &[u64], k: usize, src: usize, w: usize) -> bool
     requires { ⌜ (k * w ≤ length (now cells)) × (src + w ≤ length (now cells)) ⌝ }
     ensures { λ r. ⌜ r ≡ any (λ q. same q (take w (drop src (now (cells .entry))))) (chunk k w (now (cells .entry))) ⌝ }
 {
@@ -48,7 +48,7 @@ const LONG_CHAIN: usize = 8;
 
 // Whether one of the first k rows, which are indexed, is the row at src, whose bucket is b.
 fn seen_linked(
-    cells: &[u32],
+    cells: &[u64],
     k: usize,
     src: usize,
     w: usize,
@@ -80,7 +80,7 @@ fn seen_linked(
 }
 
 // Keeps the first occurrence of each of m rows at the front, in place: each row is compared with all rows that are kept.
-fn distinct_all(cells: &mut [u32], m: usize, w: usize) -> usize
+fn distinct_all(cells: &mut [u64], m: usize, w: usize) -> usize
     requires { ⌜ m * w ≤ length (now cells) ⌝ }
     ensures { λ r. ⌜ Gives (firsts (chunk m w (now (cells .entry)))) w m r (now (cells .exit)) ⌝ }
     ensures { λ _. ⌜ drop (m * w) (now (cells .exit)) ≡ drop (m * w) (now (cells .entry)) ⌝ }
@@ -103,7 +103,7 @@ fn distinct_all(cells: &mut [u32], m: usize, w: usize) -> usize
 
 // The same through an index of the rows that are kept, of which there is none before: each row is compared with those of its bucket.
 fn distinct_linked(
-    cells: &mut [u32],
+    cells: &mut [u64],
     m: usize,
     w: usize,
     heads: &mut [u16],
@@ -133,7 +133,7 @@ fn distinct_linked(
 }
 
 // The same, with the arrays of the index.
-fn distinct_indexed(cells: &mut [u32], m: usize, w: usize) -> usize
+fn distinct_indexed(cells: &mut [u64], m: usize, w: usize) -> usize
     requires { ⌜ (m ≤ 4096) × (m * w ≤ length (now cells)) ⌝ }
     ensures { λ r. ⌜ Gives (firsts (chunk m w (now (cells .entry)))) w m r (now (cells .exit)) ⌝ }
     ensures { λ _. ⌜ drop (m * w) (now (cells .exit)) ≡ drop (m * w) (now (cells .entry)) ⌝ }
@@ -144,7 +144,7 @@ fn distinct_indexed(cells: &mut [u32], m: usize, w: usize) -> usize
 }
 
 // Keeps the first occurrence of each of m rows at the front, in place. Few rows are compared with each other sooner than an index is made.
-pub(crate) fn distinct_front(cells: &mut [u32], m: usize, w: usize) -> usize
+pub(crate) fn distinct_front(cells: &mut [u64], m: usize, w: usize) -> usize
     requires { ⌜ m * w ≤ length (now cells) ⌝ }
     ensures { λ r. ⌜ Gives (firsts (chunk m w (now (cells .entry)))) w m r (now (cells .exit)) ⌝ }
     ensures { λ _. ⌜ drop (m * w) (now (cells .exit)) ≡ drop (m * w) (now (cells .entry)) ⌝ }

@@ -24,7 +24,7 @@ use crate::test::any_row;
 use reading::plan::Node;
 
 // Writes n blanks at a place.
-pub(crate) fn blanks(cells: &mut [u32], at: usize, n: usize)
+pub(crate) fn blanks(cells: &mut [u64], at: usize, n: usize)
     requires { ⌜ at + n ≤ length (now cells) ⌝ }
     ensures { λ _. ⌜ Written at n (replicate n 0) (now (cells .entry)) (now (cells .exit)) ⌝ }
 {
@@ -36,7 +36,7 @@ pub(crate) fn blanks(cells: &mut [u32], at: usize, n: usize)
 }
 
 // The row of w cells at src joined to each of k rows of v cells at `behind`, at the front.
-fn join_rows(cells: &mut [u32], src: usize, w: usize, behind: usize, k: usize, v: usize)
+fn join_rows(cells: &mut [u64], src: usize, w: usize, behind: usize, k: usize, v: usize)
     requires { ⌜ (k * (w + v) ≤ src) × (src + w ≤ behind) × (behind + k * v ≤ length (now cells)) ⌝ }
     ensures { λ _. ⌜ Gives (joinedRows (rowAt src w (now (cells .entry))) (rowsFrom behind k v (now (cells .entry)))) (w + v) k k (now (cells .exit)) ⌝ }
     ensures { λ _. ⌜ drop (k * (w + v)) (now (cells .exit)) ≡ drop (k * (w + v)) (now (cells .entry)) ⌝ }
@@ -54,7 +54,7 @@ fn join_rows(cells: &mut [u32], src: usize, w: usize, behind: usize, k: usize, v
 }
 
 // The same, at dst.
-fn join_at(cells: &mut [u32], src: usize, w: usize, dst: usize, behind: usize, k: usize, v: usize)
+fn join_at(cells: &mut [u64], src: usize, w: usize, dst: usize, behind: usize, k: usize, v: usize)
     requires { ⌜ (dst + k * (w + v) ≤ src) × (src + w ≤ behind) × (behind + k * v ≤ length (now cells)) ⌝ }
     ensures { λ _. ⌜ JoinGiven src w dst behind k v (now (cells .entry)) (now (cells .exit)) ⌝ }
 {
@@ -63,7 +63,7 @@ fn join_at(cells: &mut [u32], src: usize, w: usize, dst: usize, behind: usize, k
 
 // The same; with no right row, once, with blanks.
 fn each_row(
-    cells: &mut [u32],
+    cells: &mut [u64],
     src: usize,
     w: usize,
     dst: usize,
@@ -88,7 +88,7 @@ fn each_row(
 fn keeps(
     kind: u8,
     found: Found,
-    cells: &[u32],
+    cells: &[u64],
     src: usize,
     behind: usize,
     k: usize,
@@ -107,7 +107,7 @@ fn keeps(
 }
 
 // Writes the row at src and a cell behind it at dst.
-fn write_with(cells: &mut [u32], src: usize, w: usize, dst: usize, cell: u32)
+fn write_with(cells: &mut [u64], src: usize, w: usize, dst: usize, cell: u64)
     requires { ⌜ (dst + (w + 1) ≤ src) × (src + w ≤ length (now cells)) ⌝ }
     ensures { λ _. ⌜ Written dst (w + 1) (rowAt src w (now (cells .entry)) ++ (cell ∷ [])) (now (cells .entry)) (now (cells .exit)) ⌝ }
 {
@@ -119,7 +119,7 @@ fn write_with(cells: &mut [u32], src: usize, w: usize, dst: usize, cell: u32)
 pub(crate) fn emit_row(
     node: Node,
     found: Found,
-    cells: &mut [u32],
+    cells: &mut [u64],
     src: usize,
     ids: &[u8],
     dst: usize,
@@ -162,7 +162,7 @@ pub(crate) fn emit_row(
 pub(crate) fn linked_row(
     node: Node,
     found: Found,
-    cells: &mut [u32],
+    cells: &mut [u64],
     src: usize,
     ids: &[u8],
     dst: usize,
@@ -196,11 +196,11 @@ pub(crate) fn linked_row(
 }
 
 // The same where what is asked and measured is the same for every left row, by aggregates that are kept by key: a Semi and an Anti count
-// the right rows that the row meets, and 2147483648 is the number 0.
+// the right rows that the row meets, and 9223372036854775808 is the number 0.
 pub(crate) fn known_row(
     node: Node,
     found: Found,
-    cells: &mut [u32],
+    cells: &mut [u64],
     src: usize,
     ids: &[u8],
     dst: usize,
@@ -211,7 +211,7 @@ pub(crate) fn known_row(
     right: usize,
     heads: &[u16],
     next: &[u16],
-    known: &mut [u32],
+    known: &mut [u64],
 ) -> usize
     requires { ⌜ FoundInside found (length (now ids)) (length (now jds)) × (k ≤ 4096) ⌝ }
     requires { ⌜ StepRoom (operatorOf node) (now ids) (now jds) k src dst behind × (behind + k * length (now jds) ≤ length (now cells)) ⌝ }
@@ -241,7 +241,7 @@ pub(crate) fn known_row(
         write_with(cells, src, w, dst, cell);
         return 1;
     }
-    if (cell != 2147483648) != (kind == 7) {
+    if (cell != 9223372036854775808) != (kind == 7) {
         copy_row(cells, src, dst, w);
         return 1;
     }

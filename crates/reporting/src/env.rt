@@ -6,7 +6,7 @@ ghost use Rattle.reporting.specs.Rows.{envOf};
 use crate::rows::copy_in;
 
 // The value of a column: the row's, where its id is one of the row's, else the one around it.
-pub(crate) fn column(ids: &[u8], row: &[u32], env: &[u32], id: u8) -> u32
+pub(crate) fn column(ids: &[u8], row: &[u64], env: &[u64], id: u8) -> u64
     requires { ⌜ length (now ids) ≡ length (now row) ⌝ }
     requires { ⌜ length (now env) ≡ 256 ⌝ }
     ensures { λ r. ⌜ r ≡ bind (now (ids .entry)) (now (row .entry)) (envOf (now (env .entry))) id ⌝ }
@@ -23,7 +23,7 @@ pub(crate) fn column(ids: &[u8], row: &[u32], env: &[u32], id: u8) -> u32
 }
 
 // Binds the row's cells to the columns' ids, the last column first.
-pub(crate) fn bind_row(env: &mut [u32], ids: &[u8], row: &[u32])
+pub(crate) fn bind_row(env: &mut [u64], ids: &[u8], row: &[u64])
     requires { ⌜ length (now ids) ≡ length (now row) ⌝ }
     requires { ⌜ length (now env) ≡ 256 ⌝ }
     ensures { λ _. ⌜ envOf (now (env .exit)) ≡ bind (now (ids .entry)) (now (row .entry)) (envOf (now (env .entry))) ⌝ }
@@ -37,7 +37,7 @@ pub(crate) fn bind_row(env: &mut [u32], ids: &[u8], row: &[u32])
 }
 
 // The environment inside a row: a copy of env with the row's columns bound.
-pub(crate) fn inner_env(copy: &mut [u32], env: &[u32], ids: &[u8], row: &[u32])
+pub(crate) fn inner_env(copy: &mut [u64], env: &[u64], ids: &[u8], row: &[u64])
     requires { ⌜ (length (now ids) ≡ length (now row)) × (length (now env) ≡ 256) × (length (now copy) ≡ 256) ⌝ }
     ensures { λ _. ⌜ envOf (now (copy .exit)) ≡ bind (now (ids .entry)) (now (row .entry)) (envOf (now (env .entry))) ⌝ }
 {

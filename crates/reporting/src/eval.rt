@@ -34,10 +34,10 @@ pub(crate) fn unary_at(
     plan: &[u8],
     left: usize,
     node: Node,
-    cells: &mut [u32],
+    cells: &mut [u64],
     own: usize,
     m: usize,
-    env: &[u32],
+    env: &[u64],
 ) -> usize
     requires { ⌜ SoundAt (now set) (now plan) left × (arity (operatorOf node) ≡ 1) × (length (now env) ≡ 256) × (m ≤ 4096) ⌝ }
     requires { ⌜ UnaryRoom (operatorOf node) (columnsAt (now set) (now plan) left) own m (length (now cells)) ⌝ }
@@ -57,12 +57,12 @@ fn binary_at(
     left: usize,
     right: usize,
     node: Node,
-    cells: &mut [u32],
+    cells: &mut [u64],
     own: usize,
     m: usize,
     behind: usize,
     k: usize,
-    env: &[u32],
+    env: &[u64],
 ) -> usize
     requires { ⌜ SoundAt (now set) (now plan) left × SoundAt (now set) (now plan) right × (arity (operatorOf node) ≡ 2) × (length (now env) ≡ 256) ⌝ }
     requires { ⌜ (k ≤ 4096) × (m * emittedMost (operatorOf node) k ≤ 4096) × (behind + k * widthAt (now set) (now plan) right ≤ length (now cells)) ⌝ }
@@ -86,13 +86,13 @@ fn row_step(
     inner: usize,
     node: Node,
     found: Found,
-    cells: &mut [u32],
+    cells: &mut [u64],
     src: usize,
     ids: &[u8],
     dst: usize,
     behind: usize,
     jds: &[u8],
-    env: &[u32],
+    env: &[u64],
 ) -> usize
     requires { ⌜ FoundFor node (now ids) (now jds) (envOf (now env)) found ⌝ }
     requires { ⌜ (arity (operatorOf node) ≡ 2) × (now jds ≡ columnsAt (now set) (now plan) inner) × (behind ≤ length (now cells)) ⌝ }
@@ -102,7 +102,7 @@ fn row_step(
         (now (cells .entry)) r (now (cells .exit)) ⌝ }
 {
     let w = ids.len();
-    let mut inside = [0u32; 256];
+    let mut inside = [0u64; 256];
     inner_env(&mut inside, env, ids, &cells[src..src + w]);
     let k = eval(set, plan, inner, &mut cells[behind..], &inside);
     emit_row(node, found, cells, src, ids, dst, behind, k, jds)
@@ -114,13 +114,13 @@ fn nested_loop(
     plan: &[u8],
     inner: usize,
     node: Node,
-    cells: &mut [u32],
+    cells: &mut [u64],
     own: usize,
     m: usize,
     ids: &[u8],
     behind: usize,
     jds: &[u8],
-    env: &[u32],
+    env: &[u64],
 ) -> usize
     requires { ⌜ (arity (operatorOf node) ≡ 2) × (now jds ≡ columnsAt (now set) (now plan) inner) × (length (now ids) ≤ 32) × (behind ≤ length (now cells)) ⌝ }
     requires { ⌜ m * emittedMost (operatorOf node) (boundAt (now set) (now plan) inner) ≤ 4096 ⌝ }
@@ -166,11 +166,11 @@ fn nested_at(
     left: usize,
     inner: usize,
     node: Node,
-    cells: &mut [u32],
+    cells: &mut [u64],
     own: usize,
     m: usize,
     behind: usize,
-    env: &[u32],
+    env: &[u64],
 ) -> usize
     requires { ⌜ SoundAt (now set) (now plan) left × (arity (operatorOf node) ≡ 2) × (behind ≤ length (now cells)) ⌝ }
     requires { ⌜ m * emittedMost (operatorOf node) (boundAt (now set) (now plan) inner) ≤ 4096 ⌝ }
@@ -201,7 +201,7 @@ fn nested_at(
 
 // The rows of the tree at a place, at the front of cells. What its node counts stands there, its region or one row, and behind it its
 // first child's part; behind that whole part stands the second child's.
-pub(crate) fn eval(set: &[u8], plan: &[u8], at: usize, cells: &mut [u32], env: &[u32]) -> usize
+pub(crate) fn eval(set: &[u8], plan: &[u8], at: usize, cells: &mut [u64], env: &[u64]) -> usize
     requires { ⌜ ReadyAt (now set) (now plan) at (length (now cells)) (length (now env)) ⌝ }
     ensures { λ r. ⌜ TreeGiven (now (set .entry)) (now (plan .entry)) at (now (env .entry)) r (now (cells .exit)) ⌝ }
 {

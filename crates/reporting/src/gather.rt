@@ -21,22 +21,25 @@ use crate::side::side_cell;
 use crate::test::linked_meets;
 use crate::test::row_meets;
 use reading::plan::Node;
+use reading::set::number_word;
 
 // What the measured cells of the rows that passed so far come to: how many rows; of those with no blank how many, their sum, the least
-// and the greatest; and whether one is off scale.
+// and the greatest; and whether one is off scale. The sum of 4,096 cells can take 76 bits, so those of the cells' lower and of their upper
+// halves are kept apart.
 pub struct Tally {
     pub rows: usize,
     pub numbers: usize,
-    pub sum: u64,
-    pub least: u32,
-    pub greatest: u32,
+    pub low: u64,
+    pub high: u64,
+    pub least: u64,
+    pub greatest: u64,
     pub off: bool,
 }
 
 // ---- One cell more
 
 // The least of one cell more; with no cell before it, that cell.
-fn lesser_cell(numbers: usize, least: u32, cell: u32) -> u32
+fn lesser_cell(numbers: usize, least: u64, cell: u64) -> u64
     ensures { λ r. ⌜ r ≡ lesser numbers least cell ⌝ }
 {
     if numbers == 0 {
@@ -49,7 +52,7 @@ fn lesser_cell(numbers: usize, least: u32, cell: u32) -> u32
 }
 
 // The greatest of one cell more; a blank lies below every number.
-fn greater_cell(cell: u32, greatest: u32) -> u32
+fn greater_cell(cell: u64, greatest: u64) -> u64
     ensures { λ r. ⌜ r ≡ max cell greatest ⌝ }
 {
     if cell < greatest {
@@ -67,23 +70,29 @@ fn either(a: bool, b: bool) -> bool
     b
 }
 
-// The cell of a sum. So many rows passed, so many of their cells are not blank, and these add up to the sum: blank where a cell is blank,
-// else off scale where the exact total leaves the range.
-fn sum_cell(rows: usize, numbers: usize, sum: u64) -> u32
-    requires { ⌜ (numbers ≤ 4096) × (sum ≤ 17592186040320) ⌝ }
-    ensures { λ r. ⌜ r ≡ cond (ltb numbers rows) blank (sumOf numbers sum) ⌝ }
+// The cell of a sum. So many rows passed, so many of their cells are not blank, and the halves of these add up to low and high: blank where
+// a cell is blank, else off scale where the exact total leaves the range. The upper halves, with what the lower ones carry, are compared
+// first: where they are less than 2^21 from those of as many zeros, the total's cell fits.
+fn sum_cell(rows: usize, numbers: usize, low: u64, high: u64) -> u64
+    requires { ⌜ (numbers ≤ 4096) × (low ≤ 17592186040320) × (high ≤ 17592186040320) ⌝ }
+    ensures { λ r. ⌜ r ≡ cond (ltb numbers rows) blank (sumOf numbers (low + 4294967296 * high)) ⌝ }
 {
     if numbers < rows {
         return 0;
     }
-    let origins = (numbers as u64) * 2147483648;
-    if sum + 2000000000 < origins {
-        return 4294967295;
+    let upper = high + low / 4294967296;
+    let zeros = numbers as u64 * 2147483648;
+    if upper + 2097152 < zeros {
+        return 18446744073709551615;
     }
-    if origins + 2000000000 < sum {
-        return 4294967295;
+    if zeros + 2097152 < upper {
+        return 18446744073709551615;
     }
-    (sum + 2147483648 - origins) as u32
+    let cell = (upper + 2147483648 - zeros) * 4294967296 + low % 4294967296;
+    if number_word(cell) {
+        return cell;
+    }
+    18446744073709551615
 }
 
 impl Tally {
@@ -94,7 +103,8 @@ impl Tally {
         Tally {
             rows: 0,
             numbers: 0,
-            sum: 0,
+            low: 0,
+            high: 0,
             least: 0,
             greatest: 0,
             off: false,
@@ -102,7 +112,7 @@ impl Tally {
     }
 
     // One row more, of which this cell is measured.
-    fn add(self, cell: u32) -> Tally
+    fn add(self, cell: u64) -> Tally
         requires { ⌜ (self .rows < 4096) × Bounded self ⌝ }
         ensures { λ r. ⌜ (r ≡ added self cell) × Bounded r ⌝ }
     {
@@ -110,7 +120,8 @@ impl Tally {
             return Tally {
                 rows: self.rows + 1,
                 numbers: self.numbers,
-                sum: self.sum,
+                low: self.low,
+                high: self.high,
                 least: self.least,
                 greatest: self.greatest,
                 off: self.off,
@@ -119,26 +130,27 @@ impl Tally {
         Tally {
             rows: self.rows + 1,
             numbers: self.numbers + 1,
-            sum: self.sum + (cell as u64),
+            low: self.low + cell % 4294967296,
+            high: self.high + cell / 4294967296,
             least: lesser_cell(self.numbers, self.least, cell),
             greatest: greater_cell(cell, self.greatest),
-            off: either(cell == 4294967295, self.off),
+            off: either(cell == 18446744073709551615, self.off),
         }
     }
 
     // The aggregate, by its code: 0 count, 1 sum, 2 least, 3 greatest.
-    fn result(self, code: u8) -> u32
+    fn result(self, code: u8) -> u64
         requires { ⌜ (self .rows ≤ 4096) × Bounded self ⌝ }
         ensures { λ r. ⌜ ((column : ℕ) → r ≡ tallied (aggregateOf code column) self) ⌝ }
     {
         if code == 0 {
-            return 2147483648 + (self.rows as u32);
+            return 9223372036854775808 + (self.rows as u64);
         }
         if self.off {
-            return 4294967295;
+            return 18446744073709551615;
         }
         if code == 1 {
-            return sum_cell(self.rows, self.numbers, self.sum);
+            return sum_cell(self.rows, self.numbers, self.low, self.high);
         }
         if code == 2 {
             return self.least;
@@ -169,12 +181,12 @@ pub(crate) fn aggregate_code(node: Node) -> u8
 // The aggregate over those of the k right rows of v cells at `behind` that the left row at src meets.
 pub(crate) fn gather(
     found: Found,
-    cells: &[u32],
+    cells: &[u64],
     src: usize,
     behind: usize,
     k: usize,
     v: usize,
-) -> u32
+) -> u64
     requires { ⌜ FoundInside found (length (now cells) - src) v × (behind + k * v ≤ length (now cells)) × (k ≤ 4096) ⌝ }
     ensures { λ r. ⌜ r ≡ foundCell found (drop src (now (cells .entry))) (rowsFrom behind k v (now (cells .entry))) ⌝ }
 {
@@ -195,7 +207,7 @@ pub(crate) fn gather(
 // The same through an index of the right rows: only those of the key's bucket are asked. A blank or off-scale key meets none.
 pub(crate) fn gather_linked(
     found: Found,
-    cells: &[u32],
+    cells: &[u64],
     src: usize,
     behind: usize,
     k: usize,
@@ -204,7 +216,7 @@ pub(crate) fn gather_linked(
     right: usize,
     heads: &[u16],
     next: &[u16],
-) -> u32
+) -> u64
     requires { ⌜ FoundInside found (length (now cells) - src) v × (behind + k * v ≤ length (now cells)) × (k ≤ 4096) ⌝ }
     requires { ⌜ Equals left right (found .keys) × Linked right k (rowsFrom behind k v (now cells)) (now heads) (now next) ⌝ }
     ensures { λ r. ⌜ r ≡ foundCell found (drop src (now (cells .entry))) (rowsFrom behind k v (now (cells .entry))) ⌝ }
@@ -231,7 +243,7 @@ pub(crate) fn gather_linked(
 // the first right row with that key, or under k where no right row has it. 0 is kept for none.
 pub(crate) fn gather_known(
     found: Found,
-    cells: &[u32],
+    cells: &[u64],
     src: usize,
     behind: usize,
     k: usize,
@@ -240,8 +252,8 @@ pub(crate) fn gather_known(
     right: usize,
     heads: &[u16],
     next: &[u16],
-    known: &mut [u32],
-) -> u32
+    known: &mut [u64],
+) -> u64
     requires { ⌜ FoundInside found (length (now cells) - src) v × (behind + k * v ≤ length (now cells)) × (k ≤ 4096) ⌝ }
     requires { ⌜ Equals left right (found .keys) × Linked right k (rowsFrom behind k v (now cells)) (now heads) (now next) ⌝ }
     requires { ⌜ Shared found × Known found left right (rowsFrom behind k v (now cells)) (now known) ⌝ }

@@ -27,7 +27,7 @@ use crate::side::side_of;
 use reading::plan::Node;
 
 // Whether one of the first k rows, of two cells each, has this key as its first cell.
-fn key_given(cells: &[u32], k: usize, key: u32) -> bool
+fn key_given(cells: &[u64], k: usize, key: u64) -> bool
     requires { ⌜ k * 2 ≤ length (now cells) ⌝ }
     ensures { λ r. ⌜ r ≡ any (λ q. same (take 1 q) (key ∷ [])) (chunk k 2 (now (cells .entry))) ⌝ }
 {
@@ -44,7 +44,7 @@ fn key_given(cells: &[u32], k: usize, key: u32) -> bool
 }
 
 // Writes a key and its aggregate over m rows at `own` as a row at dst: the key, standing there, is the left row.
-fn give_key(found: Found, key: u32, cells: &mut [u32], dst: usize, own: usize, m: usize, w: usize)
+fn give_key(found: Found, key: u64, cells: &mut [u64], dst: usize, own: usize, m: usize, w: usize)
     requires { ⌜ FoundInside found 1 w × (m ≤ 4096) × (dst + 2 ≤ own) × (own + m * w ≤ length (now cells)) ⌝ }
     ensures { λ _. ⌜ KeyWritten found key dst (rowsFrom own m w (now (cells .entry))) (now (cells .entry)) (now (cells .exit)) ⌝ }
 {
@@ -54,7 +54,7 @@ fn give_key(found: Found, key: u32, cells: &mut [u32], dst: usize, own: usize, m
 }
 
 // Each first occurrence of a key among m rows at `own`, with its aggregate over these rows: rows of two cells, at the front.
-fn group_all(found: Found, cells: &mut [u32], own: usize, m: usize, w: usize, side: Side) -> usize
+fn group_all(found: Found, cells: &mut [u64], own: usize, m: usize, w: usize, side: Side) -> usize
     requires { ⌜ FoundInside found 1 w × SideInside side 0 w × (m ≤ 4096) × (m * 2 ≤ own) × (own + m * w ≤ length (now cells)) ⌝ }
     ensures { λ r. ⌜ Gives (groupedBy found (sideCell side []) (rowsFrom own m w (now (cells .entry)))) 2 m r (now (cells .exit)) ⌝ }
 {
@@ -78,8 +78,8 @@ fn group_all(found: Found, cells: &mut [u32], own: usize, m: usize, w: usize, si
 // As give_key, through an index of the rows by their key.
 fn give_linked(
     found: Found,
-    key: u32,
-    cells: &mut [u32],
+    key: u64,
+    cells: &mut [u64],
     dst: usize,
     own: usize,
     m: usize,
@@ -100,7 +100,7 @@ fn give_linked(
 // As group_all, through an index of the rows by their key: a row is the first with its key where the index finds no other before it.
 fn group_linked(
     found: Found,
-    cells: &mut [u32],
+    cells: &mut [u64],
     own: usize,
     m: usize,
     w: usize,
@@ -132,7 +132,7 @@ fn group_linked(
 // The same, with the index made first.
 fn group_indexed(
     found: Found,
-    cells: &mut [u32],
+    cells: &mut [u64],
     own: usize,
     m: usize,
     w: usize,
@@ -166,11 +166,11 @@ fn key_at(keys: Condition, place: usize) -> bool
 // Each first occurrence of the right key among m rows at `own`, with its aggregate over these rows: rows of two cells, at the front.
 pub(crate) fn group(
     node: Node,
-    cells: &mut [u32],
+    cells: &mut [u64],
     own: usize,
     m: usize,
     ids: &[u8],
-    env: &[u32],
+    env: &[u64],
 ) -> usize
     requires { ⌜ (node .kind ≡ 13) × (length (now env) ≡ 256) × (m ≤ 4096) ⌝ }
     requires { ⌜ (m * 2 ≤ own) × (own + m * length (now ids) ≤ length (now cells)) ⌝ }

@@ -4,28 +4,29 @@ ghost use Prim.Native.Nat.{_+_, _*_, _%_, _≤_, _<_};
 ghost use lib.Dec.{eqb};
 ghost use lib.ListN.{length, getD, set, replicate};
 ghost use Rattle.algebra.specs.Lists.{upward};
-ghost use Rattle.reporting.specs.Index.{bucketOf, slotOf, rowSlot, Index, Linked, before};
+ghost use Rattle.reporting.specs.Index.{halves, bucketOf, slotOf, rowSlot, Index, Linked, before};
 ghost use Rattle.reporting.specs.Rows.{chunk, rowsFrom};
 
 // Rows are indexed from so many on: with fewer, making the index costs more than it saves.
 pub(crate) const FEW: usize = 32;
 
 // The bucket of a key.
-pub(crate) fn bucket(key: u32) -> usize
+pub(crate) fn bucket(key: u64) -> usize
     ensures { λ r. ⌜ (r < 4096) × (r ≡ bucketOf key) ⌝ }
 {
-    (key as usize * 2654435761 % 4294967296) / 1048576
+    let folded = (key % 4294967296 + key / 4294967296) % 4294967296;
+    (folded * 2654435761 % 4294967296 / 1048576) as usize
 }
 
 // One cell more in the number of a row.
-fn mix(h: u32, x: u32) -> u32
-    ensures { λ r. ⌜ r ≡ (h * 2654435761 + x) % 4294967296 ⌝ }
+fn mix(h: u32, x: u64) -> u32
+    ensures { λ r. ⌜ r ≡ (h * 2654435761 + halves x) % 4294967296 ⌝ }
 {
-    ((h as u64 * 2654435761 + x as u64) % 4294967296) as u32
+    ((h as u64 * 2654435761 + (x % 4294967296 + x / 4294967296)) % 4294967296) as u32
 }
 
 // The bucket of a row by all its cells.
-pub(crate) fn hash_row(row: &[u32]) -> usize
+pub(crate) fn hash_row(row: &[u64]) -> usize
     ensures { λ r. ⌜ (r < 4096) × (r ≡ rowSlot (now (row .entry))) ⌝ }
 {
     let mut h: u32 = 0;
@@ -34,7 +35,7 @@ pub(crate) fn hash_row(row: &[u32]) -> usize
         h = mix(h, row[i]);
         i += 1;
     }
-    bucket(h)
+    bucket(h as u64)
 }
 
 // A link as an index.
@@ -57,7 +58,7 @@ pub(crate) fn link(heads: &mut [u16], next: &mut [u16], b: usize, i: usize)
 // Indexes k rows of w cells by their cell at `place`. No chain is there before; rows are put in from the last to the first, so that each chain
 // runs in the order of the rows.
 pub(crate) fn build(
-    rows: &[u32],
+    rows: &[u64],
     w: usize,
     place: usize,
     k: usize,
@@ -78,12 +79,12 @@ pub(crate) fn build(
 
 // The number of the first of m indexed rows at `own` whose cell at a place is this one; m where there is none.
 pub(crate) fn first_linked(
-    cells: &[u32],
+    cells: &[u64],
     own: usize,
     m: usize,
     w: usize,
     place: usize,
-    key: u32,
+    key: u64,
     heads: &[u16],
     next: &[u16],
 ) -> usize

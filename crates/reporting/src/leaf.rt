@@ -16,24 +16,33 @@ use reading::set::table_from;
 use reading::set::word;
 
 // Writes the first n cells of a table to the front, where the table has that many.
-fn words_in(cells: &mut [u32], from: &[u8], n: usize)
-    requires { ⌜ (n ≤ length (now cells)) × (n ≤ length (now from) / 4) ⌝ }
+fn words_in(cells: &mut [u64], from: &[u8], n: usize)
+    requires { ⌜ (n ≤ length (now cells)) × (n ≤ length (now from) / 8) ⌝ }
     ensures { λ _. ⌜ take n (now (cells .exit)) ≡ map (cellAt (now (from .entry))) (upward n 0) ⌝ }
 {
     let mut i = 0;
     while i < n {
-        let at = 4 * i;
-        cells[i] = word(from[at], from[at + 1], from[at + 2], from[at + 3]);
+        let at = 8 * i;
+        cells[i] = word(
+            from[at],
+            from[at + 1],
+            from[at + 2],
+            from[at + 3],
+            from[at + 4],
+            from[at + 5],
+            from[at + 6],
+            from[at + 7],
+        );
         i += 1;
     }
 }
 
 // Writes the first n cells of a table to the front. Past the last cell they are blank; no table of a set that was accepted comes to that.
-fn cells_in(cells: &mut [u32], from: &[u8], n: usize)
+fn cells_in(cells: &mut [u64], from: &[u8], n: usize)
     requires { ⌜ n ≤ length (now cells) ⌝ }
     ensures { λ _. ⌜ take n (now (cells .exit)) ≡ map (cellAt (now (from .entry))) (upward n 0) ⌝ }
 {
-    let mut whole = from.len() / 4;
+    let mut whole = from.len() / 8;
     if n < whole {
         whole = n;
     }
@@ -42,7 +51,7 @@ fn cells_in(cells: &mut [u32], from: &[u8], n: usize)
 }
 
 // The rows of table t, at the front.
-fn scan(set: &[u8], t: usize, cells: &mut [u32]) -> usize
+fn scan(set: &[u8], t: usize, cells: &mut [u64]) -> usize
     requires { ⌜ rowsOf (tableFrom t (now set)) * columnsOf (tableFrom t (now set)) ≤ length (now cells) ⌝ }
     ensures { λ r. ⌜ TableGiven (tableFrom t (now (set .entry))) r (now (cells .exit)) ⌝ }
 {
@@ -54,7 +63,7 @@ fn scan(set: &[u8], t: usize, cells: &mut [u32]) -> usize
 }
 
 // The rows of a node with no children, at the front of cells; a kind with children gives none.
-pub(crate) fn leaf(set: &[u8], node: Node, cells: &mut [u32]) -> usize
+pub(crate) fn leaf(set: &[u8], node: Node, cells: &mut [u64]) -> usize
     requires { ⌜ leafMost (tablesOf (now set)) (operatorOf node) * leafWidth (tablesOf (now set)) (operatorOf node) ≤ length (now cells) ⌝ }
     ensures { λ r. ⌜ LeafGiven (now (set .entry)) (operatorOf node) r (now (cells .exit)) ⌝ }
 {

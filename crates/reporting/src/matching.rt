@@ -43,7 +43,7 @@ pub(crate) fn emitted_width(node: Node, ids: &[u8], jds: &[u8]) -> usize
 fn plain_loop(
     node: Node,
     found: Found,
-    cells: &mut [u32],
+    cells: &mut [u64],
     own: usize,
     m: usize,
     ids: &[u8],
@@ -76,7 +76,7 @@ fn plain_loop(
 fn linked_loop(
     node: Node,
     found: Found,
-    cells: &mut [u32],
+    cells: &mut [u64],
     own: usize,
     m: usize,
     ids: &[u8],
@@ -129,7 +129,7 @@ fn linked_loop(
 fn known_loop(
     node: Node,
     found: Found,
-    cells: &mut [u32],
+    cells: &mut [u64],
     own: usize,
     m: usize,
     ids: &[u8],
@@ -140,7 +140,7 @@ fn known_loop(
     right: usize,
     heads: &[u16],
     next: &[u16],
-    known: &mut [u32],
+    known: &mut [u64],
 ) -> usize
     requires { ⌜ FoundSomewhere node (now ids) (now jds) found × (arity (operatorOf node) ≡ 2) ⌝ }
     requires { ⌜ (length (now ids) ≤ 32) × (length (now jds) ≤ 32) × (k ≤ 4096) × (m * emittedMost (operatorOf node) k ≤ 4096) ⌝ }
@@ -185,7 +185,7 @@ fn known_loop(
 fn known_at(
     node: Node,
     found: Found,
-    cells: &mut [u32],
+    cells: &mut [u64],
     own: usize,
     m: usize,
     ids: &[u8],
@@ -205,7 +205,7 @@ fn known_at(
     requires { ⌜ Shared found ⌝ }
     ensures { λ r. ⌜ EmitsGiven node found (now (ids .entry)) (now (jds .entry)) own m behind k (now (cells .entry)) r (now (cells .exit)) ⌝ }
 {
-    let mut known = [0u32; 4097];
+    let mut known = [0u64; 4097];
     known_loop(
         node,
         found,
@@ -245,7 +245,7 @@ fn keeps_cells(kind: u8, found: Found, k: usize) -> bool
 fn linked_at(
     node: Node,
     found: Found,
-    cells: &mut [u32],
+    cells: &mut [u64],
     own: usize,
     m: usize,
     ids: &[u8],
@@ -301,14 +301,14 @@ fn linked_at(
 // The rows of each of m left rows at `own`, at the front. Its columns are found once, and its right rows are indexed where that serves.
 pub(crate) fn rows_of_each(
     node: Node,
-    cells: &mut [u32],
+    cells: &mut [u64],
     own: usize,
     m: usize,
     ids: &[u8],
     behind: usize,
     k: usize,
     jds: &[u8],
-    env: &[u32],
+    env: &[u64],
 ) -> usize
     requires { ⌜ (arity (operatorOf node) ≡ 2) × (length (now env) ≡ 256) ⌝ }
     requires { ⌜ (length (now ids) ≤ 32) × (length (now jds) ≤ 32) × (k ≤ 4096) × (m * emittedMost (operatorOf node) k ≤ 4096) ⌝ }

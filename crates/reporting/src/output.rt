@@ -6,14 +6,18 @@ ghost use lib.ListN.{length, take, drop, replicate};
 ghost use Rattle.reporting.specs.Report.{codeOf};
 
 // The signed code of a cell.
-fn code(cell: u32) -> i32
+fn code(cell: u64) -> i64
     ensures { λ r. ⌜ r ≡ codeOf cell ⌝ }
 {
-    (cell as i64 - 2147483648) as i32
+    if cell < 9223372036854775808 {
+        let below = (9223372036854775807 - cell) as i64;
+        return -1 - below;
+    }
+    (cell - 9223372036854775808) as i64
 }
 
 // The codes of the first n cells, at the front of out.
-pub(crate) fn write_codes(cells: &[u32], out: &mut [i32], n: usize)
+pub(crate) fn write_codes(cells: &[u64], out: &mut [i64], n: usize)
     requires { ⌜ n ≤ length (now cells) ⌝ }
     requires { ⌜ n ≤ length (now out) ⌝ }
     ensures { λ _. ⌜ now (out .exit) ≡ map codeOf (take n (now (cells .entry))) ++ drop n (now (out .entry)) ⌝ }
@@ -27,7 +31,7 @@ pub(crate) fn write_codes(cells: &[u32], out: &mut [i32], n: usize)
 }
 
 // Zero in each cell.
-pub fn clear(cells: &mut [u32])
+pub fn clear(cells: &mut [u64])
     ensures { λ _. ⌜ now (cells .exit) ≡ replicate (length (now (cells .entry))) 0 ⌝ }
 {
     let mut i = 0;

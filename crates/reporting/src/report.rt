@@ -27,13 +27,13 @@ pub(crate) fn refused(number: u8) -> Report
 }
 
 // The report of an input that 1 to 14 do not turn back, in scratch of the need at least. Scratch is left to be cleared.
-fn run(set: &[u8], plan: &[u8], out: &mut [i32], scratch: &mut [u32]) -> Report
+fn run(set: &[u8], plan: &[u8], out: &mut [i64], scratch: &mut [u64]) -> Report
     requires { ⌜ inputRefusal (now set) (now plan) ≡ 0 ⌝ }
     requires { ⌜ need (tablesOf (now set)) (planOf (now plan)) ≤ length (now scratch) ⌝ }
     ensures { λ r. ⌜ Reported (now (set .entry)) (now (plan .entry)) (now (out .entry)) (now (out .exit)) (now (scratch .entry))
         (replicate (length (now (scratch .entry))) 0) r ⌝ }
 {
-    let outside = [0u32; 256];
+    let outside = [0u64; 256];
     let rows = eval(set, plan, 0, scratch, &outside);
     let columns = columns_at(set, plan, 0);
     let codes = rows * columns;
@@ -53,8 +53,8 @@ fn report_accepted(
     set: &[u8],
     plan: &[u8],
     cells: usize,
-    out: &mut [i32],
-    scratch: &mut [u32],
+    out: &mut [i64],
+    scratch: &mut [u64],
 ) -> Report
     requires { ⌜ inputRefusal (now set) (now plan) ≡ 0 ⌝ }
     requires { ⌜ cells ≡ need (tablesOf (now set)) (planOf (now plan)) ⌝ }
@@ -68,7 +68,7 @@ fn report_accepted(
 }
 
 // The report of a plan over a set of tables: its number, counts and codes. Any bytes, and buffers of any length, are taken.
-pub fn report(set: &[u8], plan: &[u8], out: &mut [i32], scratch: &mut [u32]) -> Report
+pub fn report(set: &[u8], plan: &[u8], out: &mut [i64], scratch: &mut [u64]) -> Report
     ensures { λ r. ⌜ Reported (now (set .entry)) (now (plan .entry)) (now (out .entry)) (now (out .exit)) (now (scratch .entry)) (now (scratch .exit)) r ⌝ }
 {
     match check_input(set, plan) {

@@ -5,7 +5,7 @@ ghost use lib.ListN.{length, drop};
 ghost use lib.Seq.{paste};
 
 // Copies w cells down from src to dst; they may overlap.
-pub(crate) fn copy_row(cells: &mut [u32], src: usize, dst: usize, w: usize)
+pub(crate) fn copy_row(cells: &mut [u64], src: usize, dst: usize, w: usize)
     requires { ⌜ dst ≤ src ⌝ }
     requires { ⌜ src + w ≤ length (now cells) ⌝ }
     ensures { λ _. ⌜ now (cells .exit) ≡ paste (now (cells .entry)) dst (drop src (now (cells .entry))) w ⌝ }
@@ -18,7 +18,7 @@ pub(crate) fn copy_row(cells: &mut [u32], src: usize, dst: usize, w: usize)
 }
 
 // Copies n cells to the front.
-pub(crate) fn copy_in(cells: &mut [u32], from: &[u32], n: usize)
+pub(crate) fn copy_in(cells: &mut [u64], from: &[u64], n: usize)
     requires { ⌜ n ≤ length (now cells) ⌝ }
     requires { ⌜ n ≤ length (now from) ⌝ }
     ensures { λ _. ⌜ now (cells .exit) ≡ paste (now (cells .entry)) 0 (now (from .entry)) n ⌝ }

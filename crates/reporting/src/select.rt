@@ -18,11 +18,11 @@ use reading::plan::Test;
 pub(crate) fn select(
     negated: bool,
     form: Test,
-    cells: &mut [u32],
+    cells: &mut [u64],
     own: usize,
     m: usize,
     ids: &[u8],
-    env: &[u32],
+    env: &[u64],
 ) -> usize
     requires { ⌜ (length (now env) ≡ 256) × (own + m * length (now ids) ≤ length (now cells)) ⌝ }
     ensures { λ r. ⌜ SelectGiven (test negated (formOf form)) (now (ids .entry)) (now (env .entry)) own m (now (cells .entry)) r (now (cells .exit)) ⌝ }
@@ -47,7 +47,7 @@ pub(crate) fn select(
 }
 
 // Writes the row at src, cut to a list of ids, at dst, where it ends before the row begins.
-fn cut_row(cells: &mut [u32], src: usize, dst: usize, ids: &[u8], list: &[u8], env: &[u32])
+fn cut_row(cells: &mut [u64], src: usize, dst: usize, ids: &[u8], list: &[u8], env: &[u64])
     requires { ⌜ (length (now env) ≡ 256) × (dst + length (now list) ≤ src) × (src + length (now ids) ≤ length (now cells)) ⌝ }
     ensures { λ _. ⌜ CutWritten (now (list .entry)) (now (ids .entry)) (now (env .entry)) src dst (now (cells .entry)) (now (cells .exit)) ⌝ }
 {
@@ -61,7 +61,7 @@ fn cut_row(cells: &mut [u32], src: usize, dst: usize, ids: &[u8], list: &[u8], e
 }
 
 // The same by the places of the columns, where each id is one.
-fn cut_row_at(cells: &mut [u32], src: usize, dst: usize, places: &[u8])
+fn cut_row_at(cells: &mut [u64], src: usize, dst: usize, places: &[u8])
     requires { ⌜ (dst + length (now places) ≤ src) × Inside (now places) (length (now cells) - src) ⌝ }
     ensures { λ _. ⌜ PickWritten (now (places .entry)) src dst (now (cells .entry)) (now (cells .exit)) ⌝ }
 {
@@ -75,7 +75,7 @@ fn cut_row_at(cells: &mut [u32], src: usize, dst: usize, places: &[u8])
 }
 
 // Each of m rows at `own` cut to a list of ids, at the front.
-fn cut_rows(cells: &mut [u32], own: usize, m: usize, ids: &[u8], list: &[u8], env: &[u32]) -> usize
+fn cut_rows(cells: &mut [u64], own: usize, m: usize, ids: &[u8], list: &[u8], env: &[u64]) -> usize
     requires { ⌜ (length (now env) ≡ 256) × CutsRoom (length (now ids)) (length (now list)) own m (length (now cells)) ⌝ }
     ensures { λ r. ⌜ CutsGiven (now (list .entry)) (now (ids .entry)) (now (env .entry)) own m (now (cells .entry)) r (now (cells .exit)) ⌝ }
 {
@@ -94,7 +94,7 @@ fn cut_rows(cells: &mut [u32], own: usize, m: usize, ids: &[u8], list: &[u8], en
 }
 
 // The same of rows of w cells by the places of the columns, where each id is one.
-fn cut_rows_at(cells: &mut [u32], own: usize, m: usize, w: usize, places: &[u8]) -> usize
+fn cut_rows_at(cells: &mut [u64], own: usize, m: usize, w: usize, places: &[u8]) -> usize
     requires { ⌜ Inside (now places) w × CutsRoom w (length (now places)) own m (length (now cells)) ⌝ }
     ensures { λ r. ⌜ PicksGiven (now (places .entry)) w own m (now (cells .entry)) r (now (cells .exit)) ⌝ }
 {
@@ -114,12 +114,12 @@ fn cut_rows_at(cells: &mut [u32], own: usize, m: usize, w: usize, places: &[u8])
 // Each of m rows at `own` cut to a list of ids, at the front. Where each id is a column, their places are found once for all rows; of at most
 // 7 ids, as many as a node lists, among at most 256 columns.
 pub(crate) fn project(
-    cells: &mut [u32],
+    cells: &mut [u64],
     own: usize,
     m: usize,
     ids: &[u8],
     list: &[u8],
-    env: &[u32],
+    env: &[u64],
 ) -> usize
     requires { ⌜ (length (now env) ≡ 256) × CutsRoom (length (now ids)) (length (now list)) own m (length (now cells)) ⌝ }
     ensures { λ r. ⌜ CutsGiven (now (list .entry)) (now (ids .entry)) (now (env .entry)) own m (now (cells .entry)) r (now (cells .exit)) ⌝ }

@@ -19,7 +19,7 @@ use reading::plan::Test;
 pub enum Side {
     Left(usize),
     Right(usize),
-    Word(u32),
+    Word(u64),
 }
 
 // A comparison of two sides under a not-mark; where it is an always, the outcome under the mark is true whatever the sides.
@@ -48,7 +48,7 @@ pub enum KeyPlaces {
 // ---- Sides
 
 // The side of a column: the right row's, where its id is one of the right columns, else the left row's, else the word around the rows.
-pub(crate) fn side_of(cs: &[u8], ds: &[u8], env: &[u32], id: u8) -> Side
+pub(crate) fn side_of(cs: &[u8], ds: &[u8], env: &[u64], id: u8) -> Side
     requires { ⌜ length (now env) ≡ 256 ⌝ }
     ensures { λ r. ⌜ SideFor (now (cs .entry)) (now (ds .entry)) (envOf (now (env .entry))) id r ⌝ }
 {
@@ -65,7 +65,7 @@ pub(crate) fn side_of(cs: &[u8], ds: &[u8], env: &[u32], id: u8) -> Side
 }
 
 // The value of a side, of the left row at src and the right row at `at`.
-pub(crate) fn side_cell(side: Side, cells: &[u32], src: usize, at: usize) -> u32
+pub(crate) fn side_cell(side: Side, cells: &[u64], src: usize, at: usize) -> u64
     requires { ⌜ SideInside side (length (now cells) - src) (length (now cells) - at) ⌝ }
     ensures { λ r. ⌜ r ≡ sideCell side (drop src (now (cells .entry))) (drop at (now (cells .entry))) ⌝ }
 {
@@ -90,7 +90,7 @@ fn side_shared(side: Side) -> bool
 // ---- Conditions
 
 // The condition of a test under its not-mark.
-pub(crate) fn find_test(negated: bool, form: Test, cs: &[u8], ds: &[u8], env: &[u32]) -> Condition
+pub(crate) fn find_test(negated: bool, form: Test, cs: &[u8], ds: &[u8], env: &[u64]) -> Condition
     requires { ⌜ length (now env) ≡ 256 ⌝ }
     ensures { λ r. ⌜ ConditionFor (now (cs .entry)) (now (ds .entry)) (envOf (now (env .entry))) (holds (test negated (formOf form))) r ⌝ }
 {
@@ -128,7 +128,7 @@ pub(crate) fn find_test(negated: bool, form: Test, cs: &[u8], ds: &[u8], env: &[
 }
 
 // The condition of a node's keys; a kind without keys asks nothing.
-fn find_keys(node: Node, cs: &[u8], ds: &[u8], env: &[u32]) -> Condition
+fn find_keys(node: Node, cs: &[u8], ds: &[u8], env: &[u64]) -> Condition
     requires { ⌜ length (now env) ≡ 256 ⌝ }
     ensures { λ r. ⌜ ConditionFor (now (cs .entry)) (now (ds .entry)) (envOf (now (env .entry))) (keysHold (node .kind) node) r ⌝ }
 {
@@ -181,7 +181,7 @@ pub(crate) fn key_places(keys: Condition) -> KeyPlaces
 // ---- A node
 
 // What an aggregate measures; a count measures nothing.
-fn find_measured(code: u8, id: u8, cs: &[u8], ds: &[u8], env: &[u32]) -> Side
+fn find_measured(code: u8, id: u8, cs: &[u8], ds: &[u8], env: &[u64]) -> Side
     requires { ⌜ length (now env) ≡ 256 ⌝ }
     ensures { λ r. ⌜ MeasuredFor (now (cs .entry)) (now (ds .entry)) (envOf (now (env .entry))) code id r ⌝ }
 {
@@ -192,7 +192,7 @@ fn find_measured(code: u8, id: u8, cs: &[u8], ds: &[u8], env: &[u32]) -> Side
 }
 
 // Finds the columns of a node, of a left row of columns cs and a right row of columns ds.
-pub(crate) fn find(node: Node, cs: &[u8], ds: &[u8], env: &[u32]) -> Found
+pub(crate) fn find(node: Node, cs: &[u8], ds: &[u8], env: &[u64]) -> Found
     requires { ⌜ length (now env) ≡ 256 ⌝ }
     ensures { λ r. ⌜ FoundFor node (now (cs .entry)) (now (ds .entry)) (envOf (now (env .entry))) r ⌝ }
 {

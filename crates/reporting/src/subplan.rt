@@ -20,7 +20,7 @@ use reading::plan::Node;
 use reading::plan::Test;
 
 // The number by which a call is turned back: 1 to 14, or 16, which leaves scratch all zero; else 0, and scratch is left as it was.
-fn turned_back(set: &[u8], plan: &[u8], scratch: &mut [u32]) -> u8
+fn turned_back(set: &[u8], plan: &[u8], scratch: &mut [u64]) -> u8
     ensures { λ r. ⌜ r ≡ rowsNumber (now (set .entry)) (now (plan .entry)) (length (now (scratch .entry))) ⌝ }
     ensures { λ _. ⌜ now (scratch .exit) ≡ rowsLeft (inputRefusal (now (set .entry)) (now (plan .entry)))
         (scratchNumber (now (set .entry)) (now (plan .entry)) (length (now (scratch .entry)))) (now (scratch .entry)) (now (scratch .entry)) ⌝ }
@@ -42,7 +42,7 @@ fn turned_back(set: &[u8], plan: &[u8], scratch: &mut [u32]) -> u8
 }
 
 // The answer about so many rows at the front of scratch: zeros are left behind them.
-fn given(rows: usize, columns: usize, scratch: &mut [u32]) -> Report
+fn given(rows: usize, columns: usize, scratch: &mut [u64]) -> Report
     requires { ⌜ (rows * columns ≤ 131072) × (rows * columns ≤ length (now scratch)) ⌝ }
     ensures { λ r. ⌜ (r .refusal ≡ 0) × (r .rows ≡ rows) × (r .columns ≡ columns) ⌝ }
     ensures { λ _. ⌜ now (scratch .exit) ≡ take (rows * columns) (now (scratch .entry)) ++ replicate (length (now (scratch .entry)) - rows * columns) 0 ⌝ }
@@ -57,14 +57,14 @@ fn given(rows: usize, columns: usize, scratch: &mut [u32]) -> Report
 }
 
 // Leaves the rows of the tree at a place at the front of scratch, and zeros behind them. Past the last node stands a Unit.
-pub fn rows_at(set: &[u8], plan: &[u8], place: usize, scratch: &mut [u32]) -> Report
+pub fn rows_at(set: &[u8], plan: &[u8], place: usize, scratch: &mut [u64]) -> Report
     ensures { λ r. ⌜ RowsGiven (now (set .entry)) (now (plan .entry)) (planAt (now (plan .entry)) place) (now (scratch .entry)) (now (scratch .exit)) r ⌝ }
 {
     let number = turned_back(set, plan, scratch);
     if number != 0 {
         return refused(number);
     }
-    let outside = [0u32; 256];
+    let outside = [0u64; 256];
     let rows = eval(set, plan, place, scratch, &outside);
     let columns = columns_at(set, plan, place);
     given(rows, columns, scratch)
@@ -91,7 +91,7 @@ fn distinct_of(id: u8) -> Node
 
 // As rows_at, for a Distinct of one column over the tree at a place. The need's 4,096 cells besides the regions hold the Distinct rows: they
 // are no more than the tree's bound, which is at most 4,096.
-pub fn keys_at(set: &[u8], plan: &[u8], place: usize, id: u8, scratch: &mut [u32]) -> Report
+pub fn keys_at(set: &[u8], plan: &[u8], place: usize, id: u8, scratch: &mut [u64]) -> Report
     ensures { λ r. ⌜ RowsGiven (now (set .entry)) (now (plan .entry)) (one (distinct (id ∷ [])) (planAt (now (plan .entry)) place))
         (now (scratch .entry)) (now (scratch .exit)) r ⌝ }
 {
@@ -99,7 +99,7 @@ pub fn keys_at(set: &[u8], plan: &[u8], place: usize, id: u8, scratch: &mut [u32
     if number != 0 {
         return refused(number);
     }
-    let outside = [0u32; 256];
+    let outside = [0u64; 256];
     let m = eval(set, plan, place, &mut scratch[4096..], &outside);
     let node = distinct_of(id);
     let rows = unary_at(set, plan, place, node, scratch, 4096, m, &outside);

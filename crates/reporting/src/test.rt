@@ -45,7 +45,7 @@ pub(crate) fn key_comparison(kind: u8, comparison: u8) -> u8
 }
 
 // Whether a condition holds of the left row at src and the right row at `at`.
-pub(crate) fn condition_holds(condition: Condition, cells: &[u32], src: usize, at: usize) -> bool
+pub(crate) fn condition_holds(condition: Condition, cells: &[u64], src: usize, at: usize) -> bool
     requires { ⌜ ConditionInside condition (length (now cells) - src) (length (now cells) - at) ⌝ }
     ensures { λ r. ⌜ r ≡ conditionHolds condition (drop src (now (cells .entry))) (drop at (now (cells .entry))) ⌝ }
 {
@@ -60,7 +60,7 @@ pub(crate) fn condition_holds(condition: Condition, cells: &[u32], src: usize, a
 }
 
 // Whether the left row at src and the right row at `at` meet the keys and the test: keys first.
-pub(crate) fn row_meets(found: Found, cells: &[u32], src: usize, at: usize) -> bool
+pub(crate) fn row_meets(found: Found, cells: &[u64], src: usize, at: usize) -> bool
     requires { ⌜ FoundInside found (length (now cells) - src) (length (now cells) - at) ⌝ }
     ensures { λ r. ⌜ r ≡ meets found (drop src (now (cells .entry))) (drop at (now (cells .entry))) ⌝ }
 {
@@ -75,12 +75,12 @@ pub(crate) fn row_meets(found: Found, cells: &[u32], src: usize, at: usize) -> b
 // The same where the keys are compared by = and the left one is known to be a number: the cells are the same.
 pub(crate) fn linked_meets(
     found: Found,
-    cells: &[u32],
+    cells: &[u64],
     src: usize,
     at: usize,
     left: usize,
     right: usize,
-    key: u32,
+    key: u64,
 ) -> bool
     requires { ⌜ FoundInside found (length (now cells) - src) (length (now cells) - at) × Equals left right (found .keys) ⌝ }
     requires { ⌜ (key ≡ getD (drop src (now cells)) left 0) × (isNumber key ≡ true) ⌝ }
@@ -96,7 +96,7 @@ pub(crate) fn linked_meets(
 // Whether the left row at src meets some of the k right rows of v cells at `behind`. It stops at the first.
 pub(crate) fn any_row(
     found: Found,
-    cells: &[u32],
+    cells: &[u64],
     src: usize,
     behind: usize,
     k: usize,
@@ -120,7 +120,7 @@ pub(crate) fn any_row(
 // The same through an index of the right rows: only those of the key's bucket are asked. A blank or off-scale key meets none.
 pub(crate) fn any_linked(
     found: Found,
-    cells: &[u32],
+    cells: &[u64],
     src: usize,
     behind: usize,
     k: usize,

@@ -33,12 +33,12 @@ keeping-kind : (c : tie.Else1) → (6 ≤ c .before .before .before .before .bef
 keeping-kind c = keyed-kinds (c .before .before .before .before .before .before .before .before .before .before .before .before .args .node) (c .before .before .before .before .before .before .before .before .before .before .before .before .pre .1 .1 .0 .0) (c .before .before .before .before .before .before .before .before .before .before .before .before .pre .1 .1 .0 .1) (c .if1 .left)
 
 -- whether the row is kept
-kept : (c : tie.Else1) → let a = c .before .before .before .before .before .before .before .before .before .before .before .before .args in (env : Env) → FoundFor (a .node) (a .ids .now) (a .jds .now) env (a .found) → keepsRow (a .node .kind) (a .found) (drop (a .src) (a .cells .now)) (rowsFrom (a .behind) (a .k) (length (a .jds .now)) (a .cells .now)) ≡ not (Bool·beq (not (eqb (c .before .before .before .gather-known .result) 2147483648)) (eqb (a .node .kind) 7))
+kept : (c : tie.Else1) → let a = c .before .before .before .before .before .before .before .before .before .before .before .before .args in (env : Env) → FoundFor (a .node) (a .ids .now) (a .jds .now) env (a .found) → keepsRow (a .node .kind) (a .found) (drop (a .src) (a .cells .now)) (rowsFrom (a .behind) (a .k) (length (a .jds .now)) (a .cells .now)) ≡ not (Bool·beq (not (eqb (c .before .before .before .gather-known .result) 9223372036854775808)) (eqb (a .node .kind) 7))
 kept c env found =
     let a = c .before .before .before .before .before .before .before .before .before .before .before .before .args in
     let (low, high) = keeping-kind (c) in
     kept-counted (a .node) (a .ids .now) (a .jds .now) env (a .found) found low high (drop (a .src) (a .cells .now)) (rowsFrom (a .behind) (a .k) (length (a .jds .now)) (a .cells .now)) (c .before .before .before .gather-known .result) (c .before .before .before .gather-known .ensures .0)
-    ∙ sym (flip-differs (eqb (a .node .kind) 7) (not (eqb (c .before .before .before .gather-known .result) 2147483648)))
+    ∙ sym (flip-differs (eqb (a .node .kind) 7) (not (eqb (c .before .before .before .gather-known .result) 9223372036854775808)))
 
 -- src/emit.rt:227:9
 gather-known-requires : tie.Need-gather-known-requires

@@ -7,7 +7,11 @@ use Rattle.reporting.proofs.index.bucket.Tie as tie
 use Rattle.reporting.proofs.index.bucket.Reads as reads
 use Rattle.reporting.proofs.index.bucket.Lts as lts
 
--- src/index.rt:17:6
+-- src/index.rt:17:19
+add-folded : tie.Need-add-folded
+add-folded c = search needs
+
+-- src/index.rt:18:6
 mul-result : tie.Need-mul-result
 mul-result c = search needs
 
@@ -17,4 +21,4 @@ unfolding bucketOf
 returns c = (omega arith, refl)
 
 pub bucket-spec : {M : Type 1} → statement M
-bucket-spec = tie.close (tie.spec mul-result returns)
+bucket-spec = tie.close (tie.spec add-folded mul-result returns)

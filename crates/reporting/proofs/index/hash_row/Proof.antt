@@ -1,5 +1,5 @@
 use mathlib.Core.Path.{_≡_, refl, sym, ap, _∙_}
-use Prim.Native.Nat.{_-_, _≤_}
+use Prim.Native.Nat.{_-_, _≤_, _<_}
 use native.Mathlib.Omega.{arith}
 use borrow.Author.Needs.{needs}
 use lib.ListN.{length, drop}
@@ -13,14 +13,14 @@ use Rattle.reporting.proofs.index.bucket.Reads as bucket-reads
 use Rattle.reporting.proofs.index.mix.Reads as mix-reads
 
 abbrev Inv-loop : tie.InvT-loop
-Inv-loop row h₀ i₀ h i = (i ≤ length row) × (mixed 0 row ≡ mixed h (drop i row))
+Inv-loop row h₀ i₀ h i = (i ≤ length row) × (mixed 0 row ≡ mixed h (drop i row)) × (h < 4294967296)
 
 abbrev μ-loop : tie.MeasureT-loop
 μ-loop row h₀ i₀ h i = length row - i
 
 -- src/index.rt:33:5
 loop-holds : tie.Need-loop-holds Inv-loop μ-loop
-loop-holds c = (omega arith, refl)
+loop-holds c = (omega arith, refl, omega arith)
 
 -- src/index.rt:34:20
 mul-mix : tie.Need-mul-mix Inv-loop μ-loop
@@ -46,7 +46,11 @@ loop-less c = search needs
 loop-again : tie.Need-loop-again Inv-loop μ-loop
 loop-again c =
     let l = c .before .before .before .loop in
-    (omega arith, l .inv .1 ∙ mixed-next (c .before .before .before .before .before .args .row .now) (l .h) (c .mix .result) (l .i) (c .before .before .loop-test .taken) (c .mix .ensures))
+    (omega arith, l .inv .1 ∙ mixed-next (c .before .before .before .before .before .args .row .now) (l .h) (c .mix .result) (l .i) (c .before .before .loop-test .taken) (c .mix .ensures), omega (arith, c .mix .ensures))
+
+-- src/index.rt:37:12
+cast-bucket : tie.Need-cast-bucket Inv-loop μ-loop
+cast-bucket c = omega (arith, c .before .loop .inv .2)
 
 -- src/index.rt:37:5
 bucket-requires : tie.Need-bucket-requires Inv-loop μ-loop
@@ -71,5 +75,6 @@ hash-row-spec =
     add-i
     loop-less
     loop-again
+    cast-bucket
     bucket-requires
     returns)

@@ -4,7 +4,7 @@ use mathlib.Core.List.{_++_, map}
 use native.Mathlib.Omega.{arith}
 use borrow.Author.Needs.{needs}
 use lib.ListN.{length, getD, take, drop, length-set}
-use mir.Syntax.{w32}
+use mir.Syntax.{w64}
 use mir.Val.{toZ, ofZ}
 use Rattle.reporting.specs.Report.{codeOf}
 use Rattle.reporting.proofs.Codes.{written-next, stored}
@@ -58,7 +58,7 @@ loop-again c =
     let l = c .before .before .before .loop in
     let a = c .before .before .before .before .before .args in
     let w = getD (a .cells .now) (l .i) 0 in
-    let e : toZ w32 (ofZ w32 (c .code .result)) ≡ codeOf w =
+    let e : toZ w64 (ofZ w64 (c .code .result)) ≡ codeOf w =
     stored w (omega (arith, c .before .shared-slice-known2 .given (l .i))) (c .code .ensures) in (
       omega arith,
       simp length-set (l .inv .1),

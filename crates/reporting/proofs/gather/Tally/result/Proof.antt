@@ -12,10 +12,6 @@ use Rattle.reporting.proofs.gather.Tally.result.Reads as reads
 use Rattle.reporting.proofs.gather.Tally.result.Lts as lts
 use Rattle.reporting.proofs.gather.sum_cell.Reads as sum-cell-reads
 
--- src/gather.rt:135:34
-cast-result : tie.Need-cast-result
-cast-result c = search needs
-
 -- src/gather.rt:135:20
 add-result : tie.Need-add-result
 add-result c = search needs
@@ -23,7 +19,7 @@ add-result c = search needs
 -- src/gather.rt:135:13
 returns : tie.Need-returns
 unfolding tallied
-returns c = λ column. sym (ap (λ (k : ℕ). tallied (aggregateOf k column) (c .before .before .args .self)) (c .before .if1 .taken))
+returns c = λ column. sym (ap (λ (k : ℕ). tallied (aggregateOf k column) (c .before .args .self)) (c .if1 .taken))
 
 -- src/gather.rt:138:13
 returns-2 : tie.Need-returns-2
@@ -56,7 +52,6 @@ pub result-spec : {M : Type 1} → statement M
 result-spec =
     tie.close
     (tie.spec
-    cast-result
     add-result
     returns
     returns-2
