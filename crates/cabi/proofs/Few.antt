@@ -50,20 +50,20 @@ module _ (set plan : List ℕ) (a : inputRefusal set plan ≡ 0) where
       let small : size p ≤ 64 = omega (arith, whole-size plan (passed .whole), passed .known .most) in
       omega (arith, run-length T (run-3 T p), weight-size p)
 
-  bytes-few : length (writtenPlan set plan) ≤ 1542
+  bytes-few : length (writtenPlan set plan) ≤ 2054
   bytes-few =
       let last = demand-3 set plan a (unnestSteps set plan) .accepted in
       let known = plan-passed set (writtenPlan set plan) (input-parts set (writtenPlan set plan) last .1) .known in
       omega (arith, known .long, known .most)
 
 pub unnested-few : (set plan planOut planOut′ stepsOut stepsOut′ scratch scratch′ : List ℕ) (refusal steps bytes : ℕ)
-    → Unnested set plan planOut planOut′ stepsOut stepsOut′ scratch scratch′ refusal steps bytes → (steps ≤ 192) × (bytes ≤ 1542)
+    → Unnested set plan planOut planOut′ stepsOut stepsOut′ scratch scratch′ refusal steps bytes → (steps ≤ 192) × (bytes ≤ 2054)
 unfolding unnestNumber
 unnested-few set plan planOut planOut′ stepsOut stepsOut′ scratch scratch′ refusal steps bytes e =
     let z : ℕ = unnestNumber set plan (length planOut) (length stepsOut) (length scratch) in
     let a : z ≡ 0 → inputRefusal set plan ≡ 0 = λ h. or-next (inputRefusal set plan) _ h in
     let n : countAfter z (length (unnestSteps set plan)) ≤ 192 = few z _ 192 (λ h. steps-few set plan (a h)) in
-    let b : countAfter z (length (writtenPlan set plan)) ≤ 1542 = few z _ 1542 (λ h. bytes-few set plan (a h)) in
+    let b : countAfter z (length (writtenPlan set plan)) ≤ 2054 = few z _ 2054 (λ h. bytes-few set plan (a h)) in
     (omega (arith, e .stepCount), omega (arith, e .byteCount))
 
 -- ---- stay notes: a sequence has at most 4,096 rows, and the first difference lies within the first one or at its end

@@ -7,7 +7,7 @@ use unnesting::unnest::unnest;
 
 // The reporting call. C gets refusal + 2^8 * columns + 2^16 * rows.
 #[no_mangle]
-pub extern "C" fn club_report(set: &[u8], plan: &[u8], out: &mut [i32], scratch: &mut [u32]) -> u64
+pub extern "C" fn club_report(set: &[u8], plan: &[u8], out: &mut [i64], scratch: &mut [u64]) -> u64
     ensures { λ r. ⌜ ReportCalled (now (set .entry)) (now (plan .entry)) (now (out .entry)) (now (out .exit)) (now (scratch .entry)) (now (scratch .exit)) r ⌝ }
 {
     let answer = report(set, plan, out, scratch);
@@ -24,7 +24,7 @@ pub extern "C" fn club_unnest(
     plan: &[u8],
     out_plan: &mut [u8],
     out_steps: &mut [u8],
-    scratch: &mut [u32],
+    scratch: &mut [u64],
 ) -> u64
     ensures { λ r. ⌜ UnnestCalled (now (set .entry)) (now (plan .entry)) (now («out_plan» .entry)) (now («out_plan» .exit)) (now («out_steps» .entry)) (now («out_steps» .exit)) (now (scratch .entry)) (now (scratch .exit)) r ⌝ }
 {
@@ -37,7 +37,7 @@ pub extern "C" fn club_unnest(
 
 // The stay note call. C gets the refusal, 0 where there is no note, or 2^8 + 2^16 * position.
 #[no_mangle]
-pub extern "C" fn club_stay_note(set: &[u8], plan: &[u8], place: usize, scratch: &mut [u32]) -> u64
+pub extern "C" fn club_stay_note(set: &[u8], plan: &[u8], place: usize, scratch: &mut [u64]) -> u64
     ensures { λ r. ⌜ StayNoteCalled (now (set .entry)) (now (plan .entry)) place (now (scratch .entry)) (now (scratch .exit)) r ⌝ }
 {
     match stay_note(set, plan, place, scratch) {

@@ -4,21 +4,21 @@ ghost use lib.ListN.{length};
 
 // One byte more than the longest set of eight tables. Of a longer file only these bytes are read, and the answer is that for the whole:
 // tables are met from the front, and any byte after eight of them is refused.
-pub(crate) fn set_bytes() -> [u8; 512065]
-    ensures { λ r. ⌜ 512065 ≡ length r ⌝ }
+pub(crate) fn set_bytes() -> [u8; 1024065]
+    ensures { λ r. ⌜ 1024065 ≡ length r ⌝ }
 {
-    [0; 512065]
+    [0; 1024065]
 }
 
 // A plan whose need is larger is refused.
-pub(crate) fn scratch_cells() -> [u32; 262144]
+pub(crate) fn scratch_cells() -> [u64; 262144]
     ensures { λ r. ⌜ 262144 ≡ length r ⌝ }
 {
     [0; 262144]
 }
 
 // Room for every report: 4,096 rows of 32 columns.
-pub(crate) fn report_codes() -> [i32; 131072]
+pub(crate) fn report_codes() -> [i64; 131072]
     ensures { λ r. ⌜ 131072 ≡ length r ⌝ }
 {
     [0; 131072]

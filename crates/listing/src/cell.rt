@@ -1,35 +1,29 @@
 // How a cell is printed.
 ghost use mathlib.Core.Path.{_≡_};
-ghost use Rattle.reporting.specs.Report.{codeOf};
 ghost use Rattle.listing.specs.Listing.{shownOf};
 
 // Blank, off scale, a number of this size below zero, or this number.
 pub(crate) enum Shown {
     Blank,
     OffScale,
-    BelowZero(u32),
-    Number(u32),
+    BelowZero(u64),
+    Number(u64),
 }
 
-// The word of a cell: its code plus 2^31.
-fn word(code: i32) -> u32
-    ensures { λ r. ⌜ codeOf r ≡ code ⌝ }
-{
-    (code as i64 + 2147483648) as u32
-}
-
-pub(crate) fn cell_shown(code: i32) -> Shown
+// By the cell's code. A code below zero is looked at by how far it lies below -1, which fits where its size may not.
+pub(crate) fn cell_shown(code: i64) -> Shown
     ensures { λ r. ⌜ r ≡ shownOf code ⌝ }
 {
-    let cell = word(code);
-    if cell == 0 {
-        return Shown::Blank;
+    if code < 0 {
+        let below = (-1 - code) as u64;
+        if below == 9223372036854775807 {
+            return Shown::Blank;
+        }
+        return Shown::BelowZero(below + 1);
     }
-    if cell == 4294967295 {
+    let number = code as u64;
+    if number == 9223372036854775807 {
         return Shown::OffScale;
     }
-    if cell < 2147483648 {
-        return Shown::BelowZero(2147483648 - cell);
-    }
-    Shown::Number(cell - 2147483648)
+    Shown::Number(number)
 }

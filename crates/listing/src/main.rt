@@ -18,7 +18,7 @@ use unnesting::unnest::unnest;
 
 // Lists a set and a plan. Nothing is printed before both calls have answered.
 fn list(set: &[u8], plan: &[u8]) {
-    let mut last = [0u8; 1542];
+    let mut last = [0u8; 2054];
     let mut steps = [0u8; 384];
     let mut scratch = scratch_cells();
     let unnested = unnest(set, plan, &mut last, &mut steps, &mut scratch);
@@ -41,7 +41,7 @@ fn list(set: &[u8], plan: &[u8]) {
 // The plan's buffer has one byte more than the longest plan, so that a longer file is turned back as the whole of it would be.
 fn main() {
     let mut set = set_bytes();
-    let mut plan = [0u8; 1543];
+    let mut plan = [0u8; 2055];
     let set_length = read_file(b"club.tbl", &mut set);
     let plan_length = read_file(b"club.rpt", &mut plan);
     list(head(&set, set_length), head(&plan, plan_length));

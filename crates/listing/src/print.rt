@@ -42,15 +42,15 @@ pub(crate) fn show_steps(steps: &[u8], count: usize)
 }
 
 // Prints a cell: `-` for blank, `+` for off scale, and a number in decimal.
-fn show_cell(code: i32) {
+fn show_cell(code: i64) {
     match cell_shown(code) {
         Shown::Blank => text(b"-"),
         Shown::OffScale => text(b"+"),
         Shown::BelowZero(size) => {
             text(b"-");
-            number(size as u64);
+            number(size);
         }
-        Shown::Number(n) => number(n as u64),
+        Shown::Number(n) => number(n),
     }
 }
 
@@ -62,7 +62,7 @@ fn part(i: usize) {
 }
 
 // Prints the cells of a row, parted by spaces. A row of no columns is an empty line.
-fn show_row(codes: &[i32], at: usize, columns: usize)
+fn show_row(codes: &[i64], at: usize, columns: usize)
     requires { ⌜ at + columns ≤ length (now codes) ⌝ }
 {
     let mut i = 0;
@@ -75,7 +75,7 @@ fn show_row(codes: &[i32], at: usize, columns: usize)
 }
 
 // Prints a report's counts, and its rows.
-pub(crate) fn show_report(codes: &[i32], rows: usize, columns: usize)
+pub(crate) fn show_report(codes: &[i64], rows: usize, columns: usize)
     requires { ⌜ rows * columns ≤ length (now codes) ⌝ }
 {
     text(b"rows ");

@@ -1,5 +1,5 @@
 // Reads cases from standard input and prints what reporting gives for each: a refusal's number, or the counts and the cells of the report,
-// each cell as its code plus 2^31. A case is the set's length and the plan's, 32 bits each, low byte first, then the bytes of both.
+// each cell as its code plus 2^63. A case is the set's length and the plan's, 32 bits each, low byte first, then the bytes of both.
 ghost use mathlib.Core.Path.{_≡_};
 ghost use Prim.Native.Nat.{_<_};
 ghost use lib.ListN.{length};
@@ -18,10 +18,6 @@ fn number(n: u64) {
     io::print_decimal(STDOUT_FILENO, n);
 }
 
-fn wide(cell: u32) -> u64 {
-    cell as u64
-}
-
 // The length at a place of a case's header. Of its 32 bits the upper 16 are 0 in every case.
 fn length_at(header: &[u8], i: usize) -> usize
     requires { ⌜ i < 8 ⌝ }
@@ -30,7 +26,7 @@ fn length_at(header: &[u8], i: usize) -> usize
 }
 
 // Prints a row of cells from a place on, as far as there are cells, and gives the place after it.
-fn show_row(cells: &[u32], at: usize, columns: usize) -> usize {
+fn show_row(cells: &[u64], at: usize, columns: usize) -> usize {
     let mut next = at;
     let mut j = 0;
     while j < columns {
@@ -38,14 +34,14 @@ fn show_row(cells: &[u32], at: usize, columns: usize) -> usize {
             return next;
         }
         text(b" ");
-        number(wide(cells[next]));
+        number(cells[next]);
         next += 1;
         j += 1;
     }
     next
 }
 
-fn show_rows(cells: &[u32], rows: usize, columns: usize) {
+fn show_rows(cells: &[u64], rows: usize, columns: usize) {
     let mut at = 0;
     let mut i = 0;
     while i < rows {
@@ -56,7 +52,7 @@ fn show_rows(cells: &[u32], rows: usize, columns: usize) {
 }
 
 // The report's number and counts by the reporting call, and its cells by the call for the rows at a place.
-fn show(set: &[u8], plan: &[u8], out: &mut [i32], scratch: &mut [u32]) {
+fn show(set: &[u8], plan: &[u8], out: &mut [i64], scratch: &mut [u64]) {
     let answer = report(set, plan, out, scratch);
     let refusal = answer.refusal;
     if refusal != 0 {
@@ -83,13 +79,13 @@ fn fill(buffer: &mut [u8], n: usize) -> bool {
     true
 }
 
-fn output() -> [i32; 4096]
+fn output() -> [i64; 4096]
     ensures { λ r. ⌜ 4096 ≡ length r ⌝ }
 {
     [0; 4096]
 }
 
-fn cells() -> [u32; 16384]
+fn cells() -> [u64; 16384]
     ensures { λ r. ⌜ 16384 ≡ length r ⌝ }
 {
     [0; 16384]

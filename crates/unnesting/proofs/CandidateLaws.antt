@@ -67,7 +67,7 @@ candidate-checked set plan q e h =
 
 -- ---- the bytes of the plan after a change
 
-test-bytes-long : (t : Test) → length (testBytes t) ≡ 8
+test-bytes-long : (t : Test) → length (testBytes t) ≡ 16
 test-bytes-long (test m always) = refl
 test-bytes-long (test m (columnsOf c l r)) = refl
 test-bytes-long (test m (numberOf c l w)) = refl
@@ -75,11 +75,11 @@ test-bytes-long (test m (numberOf c l w)) = refl
 list-bytes-long : (ids : List ℕ) → length (listBytes ids) ≡ 8
 list-bytes-long ids = ap suc (length-take-le 7 (ids ++ replicate 7 0) (omega (arith, length-append ids (replicate 7 0))))
 
-parts-long : (list tail : List ℕ) → length list ≡ 8 → length tail ≡ 8 → length (fieldBytes 0 0 0 0 0 0 0 ++ (list ++ tail)) ≡ 24
+parts-long : (list tail : List ℕ) → length list ≡ 8 → length tail ≡ 16 → length (fieldBytes 0 0 0 0 0 0 0 ++ (list ++ tail)) ≡ 32
 parts-long list tail h g = omega (arith, length-append list tail)
 
--- a node has 24 bytes, also where its fields cannot be written
-node-long : (op : Operator) → length (nodeBytes op) ≡ 24
+-- a node has 32 bytes, also where its fields cannot be written
+node-long : (op : Operator) → length (nodeBytes op) ≡ 32
 unfolding nodeBytes
 node-long (leafNode unit) = refl
 node-long (leafNode (scan t n)) = refl
@@ -95,7 +95,7 @@ node-long (binaryNode (fold g n t)) = parts-long (listBytes []) (testBytes t) re
 node-long (binaryNode each) = refl
 node-long (binaryNode (pair g n l r c t)) = parts-long (listBytes []) (testBytes t) refl (test-bytes-long t)
 
-pub nodes-long : (ops : List Operator) → length (flatMap nodeBytes ops) ≡ 24 * length ops
+pub nodes-long : (ops : List Operator) → length (flatMap nodeBytes ops) ≡ 32 * length ops
 nodes-long [] = refl
 nodes-long (op ∷ ops) = length-append (nodeBytes op) (flatMap nodeBytes ops) ∙ omega (arith, node-long op, nodes-long ops)
 
@@ -122,7 +122,7 @@ around plan known whole i h s =
     sym (flatMap-joined nodeBytes (s .left) (flatten q ++ s .right) ∙ ap (λ (r : List ℕ). flatMap nodeBytes (s .left) ++ r) (flatMap-joined nodeBytes (flatten q) (s .right)))
     ∙ (ap (flatMap nodeBytes) (sym (s .was)) ∙ (slice-at plan known 0 (omega arith) ∙ ap (nodeSlice plan 0) z)) in
     let first = cut-same (flatMap nodeBytes (s .left)) (flatMap nodeBytes (flatten q) ++ flatMap nodeBytes (s .right)) (nodeSlice plan 0 i) (nodeSlice plan i n)
-    (nodes-long (s .left) ∙ (ap (λ (k : ℕ). 24 * k) (s .at) ∙ sym (slice-long plan 0 i (known .long) (omega arith) (omega arith) ∙ omega arith)))
+    (nodes-long (s .left) ∙ (ap (λ (k : ℕ). 32 * k) (s .at) ∙ sym (slice-long plan 0 i (known .long) (omega arith) (omega arith) ∙ omega arith)))
     (joined ∙ sym (slice-join plan 0 i n (omega arith) (omega arith))) in
     let second = cut-same (flatMap nodeBytes (flatten q)) (flatMap nodeBytes (s .right)) (nodeSlice plan i (i + size q)) (nodeSlice plan (i + size q) n)
     (ap length (slice-at plan known i inside)) (first .1 ∙ sym (slice-join plan i (i + size q) n (omega arith) inside)) in
@@ -150,11 +150,11 @@ module _ (T : Tables) (c : Option ℕ) (plan : List ℕ) (i : ℕ) (change : Cha
       ∙ (ap₂ _++_ (m .bytes) (a .past)
       ∙ (joined ∙ ap (λ (r : List ℕ). image (change .first) ++ (kept ++ (moreBytes change ++ r))) (slice-join plan (change .from) end (nodesOf plan) (m .before) inside)))))
 
-  after-bytes : length (changedBytes plan i change) ≡ 24 * changedCount plan i change → planMark ++ (changedCount plan i change ∷ changedBytes plan i change) ≡ planBytes planAfter
+  after-bytes : length (changedBytes plan i change) ≡ 32 * changedCount plan i change → planMark ++ (changedCount plan i change ∷ changedBytes plan i change) ≡ planBytes planAfter
   unfolding planBytes
   after-bytes long =
-      let n : 24 * size planAfter ≡ 24 * changedCount plan i change =
-      ap (λ (k : ℕ). 24 * k) (sym (flatten-length planAfter)) ∙ (sym (nodes-long (flatten planAfter)) ∙ (ap length after-nodes ∙ long)) in
+      let n : 32 * size planAfter ≡ 32 * changedCount plan i change =
+      ap (λ (k : ℕ). 32 * k) (sym (flatten-length planAfter)) ∙ (sym (nodes-long (flatten planAfter)) ∙ (ap length after-nodes ∙ long)) in
       let k : changedCount plan i change ≡ size planAfter = omega arith in
       ap₂ (λ (x : ℕ) (s : List ℕ). planMark ++ (x ∷ s)) k (sym after-nodes)
 
@@ -233,7 +233,7 @@ pub record Candidate (set plan : List ℕ) (i : ℕ) (change : Change) : Type 0 
   pub taken : inputRefusal set (planBytes after) ≡ 0 → possible (tablesOf set) (planOf plan) i ≡ some after
 
 pub candidate : (set plan : List ℕ) (i : ℕ) (change : Change) → inputRefusal set plan ≡ 0 → passes (tablesOf set) (planOf plan) ≡ true
-    → Makes (tablesOf set) (fresh (tablesOf set) (planOf plan)) plan i change → length (changedBytes plan i change) ≡ 24 * changedCount plan i change
+    → Makes (tablesOf set) (fresh (tablesOf set) (planOf plan)) plan i change → length (changedBytes plan i change) ≡ 32 * changedCount plan i change
     → Candidate set plan i change
 candidate set plan i change input tree m long =
     let T = tablesOf set in
@@ -255,7 +255,7 @@ candidate set plan i change input tree m long =
 -- ---- the plan after a change, written and checked
 
 -- what a full front of a buffer says of the length of its bytes
-written-long : (buffer bytes : List ℕ) (long count : ℕ) → long ≤ length buffer → long ≡ 6 + 24 * count → take long buffer ≡ planMark ++ (count ∷ bytes) → length bytes ≡ 24 * count
+written-long : (buffer bytes : List ℕ) (long count : ℕ) → long ≤ length buffer → long ≡ 6 + 32 * count → take long buffer ≡ planMark ++ (count ∷ bytes) → length bytes ≡ 32 * count
 written-long buffer bytes long count h e q = omega (arith, length-take-le long buffer h, ap length q)
 
 pub fit-none : (T : Tables) (c : Option ℕ) (plan : List ℕ) (i : ℕ) (answer : Shape) → Shaped T c plan i answer → answer .fits ≡ false → shape T c (planAt plan i) ≡ none
@@ -265,10 +265,10 @@ pub fit-made : (T : Tables) (c : Option ℕ) (plan : List ℕ) (i : ℕ) (answer
 fit-made T c plan i answer h e = rw e at h
 
 module _ (set plan : List ℕ) (i : ℕ) (change : Change) (input : inputRefusal set plan ≡ 0) (tree : passes (tablesOf set) (planOf plan) ≡ true)
-    (made : Makes (tablesOf set) (fresh (tablesOf set) (planOf plan)) plan i change) (buffer : List ℕ) (long : ℕ) (room : length buffer ≡ 1566)
-    (ends : long ≡ 6 + 24 * changedCount plan i change) (written : take long buffer ≡ planMark ++ (changedCount plan i change ∷ changedBytes plan i change))
+    (made : Makes (tablesOf set) (fresh (tablesOf set) (planOf plan)) plan i change) (buffer : List ℕ) (long : ℕ) (room : length buffer ≡ 2086)
+    (ends : long ≡ 6 + 32 * changedCount plan i change) (written : take long buffer ≡ planMark ++ (changedCount plan i change ∷ changedBytes plan i change))
   where
-    pub written-fits : long ≤ 1566
+    pub written-fits : long ≤ 2086
     written-fits = omega (arith, made .inside .count)
 
     written-candidate : Candidate set plan i change

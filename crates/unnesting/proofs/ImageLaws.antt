@@ -6,7 +6,7 @@ use mathlib.Core.Path.{_≡_, refl, sym, ap, ap₂, _∙_}
 use mathlib.Core.Bool.{Bool, true, false, not, _||_}
 use mathlib.Core.List.{List, [], _∷_, _++_, append-assoc}
 use lib.Dec.{eqb, leb}
-use lib.ListN.{length, take, drop, getD, set, length-append}
+use lib.ListN.{length, take, drop, getD, set, replicate, length-append}
 use lib.Seq.{take-suc, drop-cons, set-at, length-take-le, take-all}
 use Rattle.algebra.specs.Plans.{test, select, project, group, cross, semi, pair}
 use Rattle.algebra.specs.Places.{unaryNode, binaryNode}
@@ -65,33 +65,47 @@ pub eight : (s : List ℕ) → length s ≡ 8
 eight [] e = absurd (omega arith)
 eight (a ∷ s) e = ap (λ (r : List ℕ). a ∷ r) (seven s (omega arith))
 
+pub sixteen : (s : List ℕ) → length s ≡ 16
+    → getD s 0 0 ∷ getD s 1 0 ∷ getD s 2 0 ∷ getD s 3 0 ∷ getD s 4 0 ∷ getD s 5 0 ∷ getD s 6 0 ∷ getD s 7 0
+    ∷ getD s 8 0 ∷ getD s 9 0 ∷ getD s 10 0 ∷ getD s 11 0 ∷ getD s 12 0 ∷ getD s 13 0 ∷ getD s 14 0 ∷ getD s 15 0 ∷ [] ≡ s
+sixteen [] e = absurd (omega arith)
+sixteen (a ∷ []) e = absurd (omega arith)
+sixteen (a ∷ b ∷ []) e = absurd (omega arith)
+sixteen (a ∷ b ∷ c ∷ []) e = absurd (omega arith)
+sixteen (a ∷ b ∷ c ∷ d ∷ []) e = absurd (omega arith)
+sixteen (a ∷ b ∷ c ∷ d ∷ x ∷ []) e = absurd (omega arith)
+sixteen (a ∷ b ∷ c ∷ d ∷ x ∷ y ∷ []) e = absurd (omega arith)
+sixteen (a ∷ b ∷ c ∷ d ∷ x ∷ y ∷ z ∷ []) e = absurd (omega arith)
+sixteen (a ∷ b ∷ c ∷ d ∷ x ∷ y ∷ z ∷ u ∷ s) e = ap (λ (r : List ℕ). a ∷ b ∷ c ∷ d ∷ x ∷ y ∷ z ∷ u ∷ r) (eight s (omega arith))
+
 -- ---- a node's bytes
 
-pub test-long : (m : Bool) (t : Test) → length (testImage m t) ≡ 8
+pub test-long : (m : Bool) (t : Test) → length (testImage m t) ≡ 16
 test-long m Always = refl
 test-long m (Columns c l r) = refl
 test-long m (Number c l w) = refl
 
-pub image-long : (node : Node) → length (node .list) ≡ 7 → length (image node) ≡ 24
+pub image-long : (node : Node) → length (node .list) ≡ 7 → length (image node) ≡ 32
 unfolding image
 image-long node h = omega (arith, length-append (node .list) (testImage (node .negated) (node .test)), test-long (node .negated) (node .test))
 
--- from its 7 list bytes and its 8 test bytes
-pub image-made : (node : Node) (t : List ℕ) → length (node .list) ≡ 7 → length t ≡ 8 → t ≡ testImage (node .negated) (node .test)
+-- from its 7 list bytes and its 16 test bytes
+pub image-made : (node : Node) (t : List ℕ) → length (node .list) ≡ 7 → length t ≡ 16 → t ≡ testImage (node .negated) (node .test)
     → node .kind ∷ node .arg ∷ node .id ∷ node .left ∷ node .right ∷ node .comparison ∷ node .column ∷ 0 ∷ node .listed
     ∷ getD (node .list) 0 0 ∷ getD (node .list) 1 0 ∷ getD (node .list) 2 0 ∷ getD (node .list) 3 0 ∷ getD (node .list) 4 0 ∷ getD (node .list) 5 0 ∷ getD (node .list) 6 0
-    ∷ getD t 0 0 ∷ getD t 1 0 ∷ getD t 2 0 ∷ getD t 3 0 ∷ getD t 4 0 ∷ getD t 5 0 ∷ getD t 6 0 ∷ getD t 7 0 ∷ [] ≡ image node
+    ∷ getD t 0 0 ∷ getD t 1 0 ∷ getD t 2 0 ∷ getD t 3 0 ∷ getD t 4 0 ∷ getD t 5 0 ∷ getD t 6 0 ∷ getD t 7 0
+    ∷ getD t 8 0 ∷ getD t 9 0 ∷ getD t 10 0 ∷ getD t 11 0 ∷ getD t 12 0 ∷ getD t 13 0 ∷ getD t 14 0 ∷ getD t 15 0 ∷ [] ≡ image node
 unfolding image
 image-made node t h g e =
     ap₂ (λ (xs ys : List ℕ). node .kind ∷ node .arg ∷ node .id ∷ node .left ∷ node .right ∷ node .comparison ∷ node .column ∷ 0 ∷ node .listed ∷ (xs ++ ys))
-    (seven (node .list) h) (eight t g ∙ e)
+    (seven (node .list) h) (sixteen t g ∙ e)
 
 -- ---- the nodes that the rules make
 
 -- a test's bytes, where its comparison is one
 pub test-image : (m : Bool) (t : Test) → leb (testComparison t) 5 ≡ true → testImage m t ≡ testBytes (test m (formOf t))
 test-image m Always h = refl
-test-image m (Columns c l r) h = ap (λ (x : ℕ). 1 ∷ x ∷ markByte m ∷ l ∷ r ∷ 0 ∷ 0 ∷ 0 ∷ []) (sym (comparison-byte c h))
+test-image m (Columns c l r) h = ap (λ (x : ℕ). 1 ∷ x ∷ markByte m ∷ l ∷ r ∷ replicate 11 0) (sym (comparison-byte c h))
 test-image m (Number c l w) h = rw (comparison-byte c h)
 
 module _ (m : Bool) (t : Test) (h : leb (testComparison t) 5 ≡ true) where

@@ -24,28 +24,28 @@ use Rattle.unnesting.specs.Shapes.{nodeSlice}
 -- ---- slices
 
 pub slice-none : (plan : List ℕ) (a : ℕ) → nodeSlice plan a a ≡ []
-slice-none plan a = let z : 24 * (a - a) ≡ 0 = omega arith in rw z
+slice-none plan a = let z : 32 * (a - a) ≡ 0 = omega arith in rw z
 
 pub slice-join : (plan : List ℕ) (a b c : ℕ) → a ≤ b → b ≤ c → nodeSlice plan a b ++ nodeSlice plan b c ≡ nodeSlice plan a c
 slice-join plan a b c h g =
-    let p : 6 + 24 * a + 24 * (b - a) ≡ 6 + 24 * b = omega arith in
-    let q : 24 * (b - a) + 24 * (c - b) ≡ 24 * (c - a) = omega arith in
-    sym (ap (λ (n : ℕ). take n (drop (6 + 24 * a) plan)) (sym q)
-    ∙ (take-add (24 * (b - a)) (24 * (c - b)) (drop (6 + 24 * a) plan)
-    ∙ ap (λ (s : List ℕ). nodeSlice plan a b ++ take (24 * (c - b)) s) (drop-drop (24 * (b - a)) (6 + 24 * a) plan ∙ ap (λ (n : ℕ). drop n plan) p)))
+    let p : 6 + 32 * a + 32 * (b - a) ≡ 6 + 32 * b = omega arith in
+    let q : 32 * (b - a) + 32 * (c - b) ≡ 32 * (c - a) = omega arith in
+    sym (ap (λ (n : ℕ). take n (drop (6 + 32 * a) plan)) (sym q)
+    ∙ (take-add (32 * (b - a)) (32 * (c - b)) (drop (6 + 32 * a) plan)
+    ∙ ap (λ (s : List ℕ). nodeSlice plan a b ++ take (32 * (c - b)) s) (drop-drop (32 * (b - a)) (6 + 32 * a) plan ∙ ap (λ (n : ℕ). drop n plan) p)))
 
-pub slice-long : (plan : List ℕ) (a b : ℕ) → length plan ≡ 6 + 24 * nodesOf plan → a ≤ b → b ≤ nodesOf plan → length (nodeSlice plan a b) ≡ 24 * (b - a)
-slice-long plan a b e h g = length-take-le (24 * (b - a)) (drop (6 + 24 * a) plan) (omega (arith, length-drop (6 + 24 * a) plan))
+pub slice-long : (plan : List ℕ) (a b : ℕ) → length plan ≡ 6 + 32 * nodesOf plan → a ≤ b → b ≤ nodesOf plan → length (nodeSlice plan a b) ≡ 32 * (b - a)
+slice-long plan a b e h g = length-take-le (32 * (b - a)) (drop (6 + 32 * a) plan) (omega (arith, length-drop (6 + 32 * a) plan))
 
 -- ---- the nodes' bytes
 
 module _ (plan : List ℕ) (known : PlanKnown plan) where
   nodes-slice : (m a : ℕ) → a + m ≤ nodesOf plan → flatMap nodeBytes (map (operatorAt plan) (upward m a)) ≡ nodeSlice plan a (a + m)
-  nodes-slice zero a h = let z : 24 * (a + 0 - a) ≡ 0 = omega arith in rw z
+  nodes-slice zero a h = let z : 32 * (a + 0 - a) ≡ 0 = omega arith in rw z
   nodes-slice (suc m) a h =
-      let z : 24 * (suc a - a) ≡ 24 = omega arith in
+      let z : 32 * (suc a - a) ≡ 32 = omega arith in
       let s : suc a + m ≡ a + suc m = omega arith in
-      ap₂ _++_ (node-at-bytes plan known a (omega arith) ∙ ap (λ (n : ℕ). take n (drop (6 + 24 * a) plan)) (sym z)) (nodes-slice m (suc a) (omega arith) ∙ ap (nodeSlice plan (suc a)) s)
+      ap₂ _++_ (node-at-bytes plan known a (omega arith) ∙ ap (λ (n : ℕ). take n (drop (6 + 32 * a) plan)) (sym z)) (nodes-slice m (suc a) (omega arith) ∙ ap (nodeSlice plan (suc a)) s)
       ∙ slice-join plan a (suc a) (a + suc m) (omega arith) (omega arith)
 
   pub slice-at : (i : ℕ) → i + size (planAt plan i) ≤ nodesOf plan → flatMap nodeBytes (flatten (planAt plan i)) ≡ nodeSlice plan i (i + size (planAt plan i))

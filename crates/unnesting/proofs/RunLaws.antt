@@ -112,7 +112,7 @@ module _ (set plan : List ℕ) (input : inputRefusal set plan ≡ 0) where
       slice-tree = ap planOf (is ∙ r .stored .bytes) ∙ r .stored .read
 
       -- where no rule fits, the run has ended
-      pub running-end : length current ≡ 1566 → ((i : ℕ) → Still (tablesOf set) (planOf slice) i) → Ends set plan room current steps count long
+      pub running-end : length current ≡ 2086 → ((i : ℕ) → Still (tablesOf set) (planOf slice) i) → Ends set plan room current steps count long
       running-end e h =
           let d = leads-end set plan (r .us) (r .q) (r .m) (r .leads) (subst (λ (p : Plan). (i : ℕ) → Still (tablesOf set) p i) slice-tree h) in
           let w : take long current ≡ writtenPlan set plan = r .stored .bytes ∙ ap planBytes (sym (d .left)) in
@@ -175,5 +175,5 @@ module _ (set plan : List ℕ) (input : inputRefusal set plan ≡ 0) (room : ℕ
   pub ended-few : count ≤ 192
   ended-few = omega (arith, d .counted, steps-few set plan input)
 
-  pub ended-short : long ≤ 1542
+  pub ended-short : long ≤ 2054
   ended-short = omega (arith, d .bytes, plan-short set plan input)

@@ -125,7 +125,7 @@ module _ (set plan : List ℕ) (passed : inputRefusal set plan ≡ 0) where
   pub steps-few : length (unnestSteps set plan) ≤ 192
   steps-few = omega (arith, run-length (tablesOf set) (run-3 (tablesOf set) (planOf plan)), weight-size (planOf plan), plan-small)
 
-  pub plan-short : length (writtenPlan set plan) ≤ 1542
+  pub plan-short : length (writtenPlan set plan) ≤ 2054
   plan-short =
       let d = demand-3 set plan passed (unnestSteps set plan) in
       let a = plan-passed set (writtenPlan set plan) (input-parts set (writtenPlan set plan) (d .accepted) .1) in

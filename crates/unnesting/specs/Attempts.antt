@@ -30,7 +30,7 @@ possible T p i = accepted T (modify (shape T (fresh T p)) p i)
 -- an accepted plan q, as bytes at the front of a buffer, with its need
 pub record Stored (set buffer : List ℕ) (long cells : ℕ) (q : Plan) : Type 0 where
   pub bytes : take long buffer ≡ planBytes q
-  pub short : long ≤ 1542
+  pub short : long ≤ 2054
   pub allowed : inputRefusal set (planBytes q) ≡ 0
   pub passed : passes (tablesOf set) q ≡ true
   pub read : planOf (planBytes q) ≡ q

@@ -1,4 +1,4 @@
--- The 24 bytes of a node (docs/DEFINITION.md, "A node"), and bytes written at a place. The contracts of helpers speak of these; the bytes
+-- The 32 bytes of a node (docs/DEFINITION.md, "A node"), and bytes written at a place. The contracts of helpers speak of these; the bytes
 -- of a plan's tree are the reading layer's `planBytes`. Definitions only.
 use Prim.Native.Nat.{ℕ, _+_}
 use mathlib.Core.Bool.{Bool, false}
@@ -9,11 +9,11 @@ use Rattle.reading.specs.declared.plan.Test.{Test}
 use Rattle.reading.specs.declared.plan.Test.the-variants.{Always, Columns, Number}
 use Rattle.reading.specs.declared.plan.Node.{Node}
 
--- bytes 16 to 23
+-- bytes 16 to 31
 abbrev pub testImage : Bool → Test → List ℕ
-testImage m Always = 0 ∷ 0 ∷ markByte m ∷ 0 ∷ 0 ∷ 0 ∷ 0 ∷ 0 ∷ []
-testImage m (Columns c l r) = 1 ∷ c ∷ markByte m ∷ l ∷ r ∷ 0 ∷ 0 ∷ 0 ∷ []
-testImage m (Number c l w) = 2 ∷ c ∷ markByte m ∷ l ∷ numberBytes w
+testImage m Always = 0 ∷ 0 ∷ markByte m ∷ 0 ∷ replicate 12 0
+testImage m (Columns c l r) = 1 ∷ c ∷ markByte m ∷ l ∷ r ∷ replicate 11 0
+testImage m (Number c l w) = 2 ∷ c ∷ markByte m ∷ l ∷ (numberBytes w ++ replicate 4 0)
 
 -- every field in its place
 unfoldable pub image : Node → List ℕ

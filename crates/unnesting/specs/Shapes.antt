@@ -62,7 +62,7 @@ operatorRule (binaryNode (pair a n l r k t)) = 6
 
 -- the bytes of the nodes from a place up to another
 abbrev pub nodeSlice : List ℕ → ℕ → ℕ → List ℕ
-nodeSlice plan from to = take (24 * (to - from)) (drop (6 + 24 * from) plan)
+nodeSlice plan from to = take (32 * (to - from)) (drop (6 + 32 * from) plan)
 
 -- of the nodes that a change may bring besides its first
 abbrev pub moreBytes : Change → List ℕ

@@ -62,28 +62,28 @@ fn write_header(out: &mut [u8], count: u8)
 
 // A node.
 fn put_node(out: &mut [u8], at: usize, node: Node) -> usize
-    requires { ⌜ at + 24 ≤ length (now out) ⌝ }
-    ensures { λ r. ⌜ (r ≡ at + 24) × (take r (now (out .exit)) ≡ take at (now (out .entry)) ++ image node) ⌝ }
+    requires { ⌜ at + 32 ≤ length (now out) ⌝ }
+    ensures { λ r. ⌜ (r ≡ at + 32) × (take r (now (out .exit)) ≡ take at (now (out .entry)) ++ image node) ⌝ }
 {
     write_node(out, at, node);
-    at + 24
+    at + 32
 }
 
 // The plan's nodes from a place up to another.
 fn copy_nodes(plan: &[u8], from: usize, to: usize, out: &mut [u8], at: usize) -> usize
-    requires { ⌜ (from ≤ to) × (6 + 24 * to ≤ length (now plan)) × (at + 24 * (to - from) ≤ length (now out)) ⌝ }
-    ensures { λ r. ⌜ (r ≡ at + 24 * (to - from)) × (take r (now (out .exit)) ≡ take at (now (out .entry)) ++ nodeSlice (now (plan .entry)) from to) ⌝ }
+    requires { ⌜ (from ≤ to) × (6 + 32 * to ≤ length (now plan)) × (at + 32 * (to - from) ≤ length (now out)) ⌝ }
+    ensures { λ r. ⌜ (r ≡ at + 32 * (to - from)) × (take r (now (out .exit)) ≡ take at (now (out .entry)) ++ nodeSlice (now (plan .entry)) from to) ⌝ }
 {
-    let start = 6 + 24 * from;
-    let n = 24 * (to - from);
+    let start = 6 + 32 * from;
+    let n = 32 * (to - from);
     write_bytes(out, at, &plan[start..start + n]);
     at + n
 }
 
 // The change's other nodes: none, its second, or its second and its third.
 fn put_more(out: &mut [u8], at: usize, change: Change) -> usize
-    requires { ⌜ (change .more ≤ 2) × (at + 24 * change .more ≤ length (now out)) ⌝ }
-    ensures { λ r. ⌜ (r ≡ at + 24 * change .more) × (take r (now (out .exit)) ≡ take at (now (out .entry)) ++ moreBytes change) ⌝ }
+    requires { ⌜ (change .more ≤ 2) × (at + 32 * change .more ≤ length (now out)) ⌝ }
+    ensures { λ r. ⌜ (r ≡ at + 32 * change .more) × (take r (now (out .exit)) ≡ take at (now (out .entry)) ++ moreBytes change) ⌝ }
 {
     let more = change.more;
     if more == 0 {
@@ -100,8 +100,8 @@ fn put_more(out: &mut [u8], at: usize, change: Change) -> usize
 
 // Writes the plan after a change at place i to the front of out, and gives its length.
 pub(crate) fn write_change(plan: &[u8], i: usize, change: Change, out: &mut [u8]) -> usize
-    requires { ⌜ Inside (now plan) i change × (length (now plan) ≡ 6 + 24 * nodesOf (now plan)) × (length (now out) ≡ 1566) ⌝ }
-    ensures { λ r. ⌜ (r ≡ 6 + 24 * changedCount (now (plan .entry)) i change) × (take r (now (out .exit)) ≡ planMark ++ (changedCount (now (plan .entry)) i change ∷ changedBytes (now (plan .entry)) i change)) ⌝ }
+    requires { ⌜ Inside (now plan) i change × (length (now plan) ≡ 6 + 32 * nodesOf (now plan)) × (length (now out) ≡ 2086) ⌝ }
+    ensures { λ r. ⌜ (r ≡ 6 + 32 * changedCount (now (plan .entry)) i change) × (take r (now (out .exit)) ≡ planMark ++ (changedCount (now (plan .entry)) i change ∷ changedBytes (now (plan .entry)) i change)) ⌝ }
 {
     let n = nodes_of(plan);
     let first = change.first;

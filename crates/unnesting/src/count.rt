@@ -88,7 +88,7 @@ fn count_select(kind: u8, c: u8) -> Node
     let test = Test::Number {
         comparison,
         left: c,
-        number: 2147483648,
+        number: 9223372036854775808,
     };
     plain_node(2, 0, 0, 0, 0, 0, 0, false, test)
 }

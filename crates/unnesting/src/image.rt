@@ -1,4 +1,4 @@
-// A node's 24 bytes, and bytes written at a place.
+// A node's 32 bytes, and bytes written at a place.
 ghost use mathlib.Core.Path.{_≡_};
 ghost use Prim.Native.Nat.{_+_, _≤_};
 ghost use lib.ListN.{length};
@@ -13,31 +13,41 @@ fn mark_byte(mark: bool) -> u8
     if mark { 1 } else { 0 }
 }
 
-// The four bytes of a number that is held as a cell's word.
-fn number_bytes(number: u32) -> [u8; 4]
+// The eight bytes of a number that is held as a cell's word.
+fn number_bytes(number: u64) -> [u8; 8]
     ensures { λ r. ⌜ r ≡ numberBytes number ⌝ }
 {
-    let code = (number as u64 + 2147483648) % 4294967296;
+    let code = if number < 9223372036854775808 {
+        number + 9223372036854775808
+    } else {
+        number - 9223372036854775808
+    };
     [
         (code % 256) as u8,
         (code / 256 % 256) as u8,
         (code / 65536 % 256) as u8,
-        (code / 16777216) as u8,
+        (code / 16777216 % 256) as u8,
+        (code / 4294967296 % 256) as u8,
+        (code / 1099511627776 % 256) as u8,
+        (code / 281474976710656 % 256) as u8,
+        (code / 72057594037927936) as u8,
     ]
 }
 
-// A test's 8 bytes.
-fn test_image(negated: bool, test: Test) -> [u8; 8]
+// A test's 16 bytes.
+fn test_image(negated: bool, test: Test) -> [u8; 16]
     ensures { λ r. ⌜ r ≡ testImage negated test ⌝ }
 {
     let mark = mark_byte(negated);
     match test {
-        Test::Always => [0, 0, mark, 0, 0, 0, 0, 0],
+        Test::Always => [0, 0, mark, 0, 0, 0, 0, 0, 0, 0, 0, 0, 0, 0, 0, 0],
         Test::Columns {
             comparison,
             left,
             right,
-        } => [1, comparison, mark, left, right, 0, 0, 0],
+        } => [
+            1, comparison, mark, left, right, 0, 0, 0, 0, 0, 0, 0, 0, 0, 0, 0,
+        ],
         Test::Number {
             comparison,
             left,
@@ -45,21 +55,15 @@ fn test_image(negated: bool, test: Test) -> [u8; 8]
         } => {
             let code = number_bytes(number);
             [
-                2,
-                comparison,
-                mark,
-                left,
-                code[0],
-                code[1],
-                code[2],
-                code[3],
+                2, comparison, mark, left, code[0], code[1], code[2], code[3], code[4], code[5],
+                code[6], code[7], 0, 0, 0, 0,
             ]
         }
     }
 }
 
-// A node's 24 bytes.
-fn node_image(node: Node) -> [u8; 24]
+// A node's 32 bytes.
+fn node_image(node: Node) -> [u8; 32]
     ensures { λ r. ⌜ r ≡ image node ⌝ }
 {
     let l = node.list;
@@ -90,6 +94,14 @@ fn node_image(node: Node) -> [u8; 24]
         t[5],
         t[6],
         t[7],
+        t[8],
+        t[9],
+        t[10],
+        t[11],
+        t[12],
+        t[13],
+        t[14],
+        t[15],
     ]
 }
 
@@ -134,10 +146,10 @@ pub(crate) fn write_bytes(out: &mut [u8], at: usize, bytes: &[u8])
     }
 }
 
-// Writes a node's 24 bytes from a place on.
+// Writes a node's 32 bytes from a place on.
 pub(crate) fn write_node(out: &mut [u8], at: usize, node: Node)
-    requires { ⌜ at + 24 ≤ length (now out) ⌝ }
-    ensures { λ _. ⌜ (now (out .exit) ≡ bytesWritten (now (out .entry)) at (image node)) × (length (image node) ≡ 24) ⌝ }
+    requires { ⌜ at + 32 ≤ length (now out) ⌝ }
+    ensures { λ _. ⌜ (now (out .exit) ≡ bytesWritten (now (out .entry)) at (image node)) × (length (image node) ≡ 32) ⌝ }
 {
     let bytes = node_image(node);
     write_bytes(out, at, &bytes);

@@ -42,10 +42,10 @@ pub(crate) fn run(
     current: &mut [u8],
     next: &mut [u8],
     steps: &mut [u8],
-    scratch: &mut [u32],
+    scratch: &mut [u64],
 ) -> Ran
     requires { ⌜ (inputRefusal (now set) (now plan) ≡ 0) × (passes (tablesOf (now set)) (planOf (now plan)) ≡ true) × (cells ≡ need (tablesOf (now set)) (planOf (now plan))) ⌝ }
-    requires { ⌜ (length (now current) ≡ 1566) × (length (now next) ≡ 1566) × (length (now steps) ≡ 384) × (readSet (now set) ≡ Holds tables) ⌝ }
+    requires { ⌜ (length (now current) ≡ 2086) × (length (now next) ≡ 2086) × (length (now steps) ≡ 384) × (readSet (now set) ≡ Holds tables) ⌝ }
     ensures { λ r. ⌜ Runs (r .enough) (now (set .entry)) (now (plan .entry)) (length (now (scratch .entry))) (now (current .exit)) (now (steps .exit)) (r .steps) (r .length) ⌝ }
 {
     write_bytes(current, 0, plan);

@@ -43,7 +43,7 @@ pub(crate) fn compares(rule: u8) -> bool
 // ---- two sequences
 
 // The length of the common beginning of two sequences of cells.
-fn common_beginning(first: &[u32], second: &[u32]) -> usize
+fn common_beginning(first: &[u64], second: &[u64]) -> usize
     ensures { λ r. ⌜ r ≡ firstDifference (rowsOfOne (now (first .entry))) (rowsOfOne (now (second .entry))) ⌝ }
 {
     let mut i = 0;
@@ -60,7 +60,7 @@ fn common_beginning(first: &[u32], second: &[u32]) -> usize
 }
 
 // Compares two sequences of cells. They are the same where the second is no longer than the first and all of the first is common.
-fn first_difference(first: &[u32], second: &[u32]) -> Compared
+fn first_difference(first: &[u64], second: &[u64]) -> Compared
     ensures { λ r. ⌜ ComparedAs (rowsOfOne (now (first .entry))) (rowsOfOne (now (second .entry))) r ⌝ }
 {
     let common = common_beginning(first, second);
@@ -75,11 +75,11 @@ fn first_difference(first: &[u32], second: &[u32]) -> Compared
 }
 
 // A copy of the first n cells.
-fn front_of(cells: &[u32], n: usize) -> [u32; 4096]
+fn front_of(cells: &[u64], n: usize) -> [u64; 4096]
     requires { ⌜ (n ≤ 4096) × (n ≤ length (now cells)) ⌝ }
     ensures { λ r. ⌜ take n r ≡ take n (now (cells .entry)) ⌝ }
 {
-    let mut copy = [0u32; 4096];
+    let mut copy = [0u64; 4096];
     let mut k = 0;
     while k < n {
         copy[k] = cells[k];
@@ -95,7 +95,7 @@ pub(crate) fn compare_sequences(
     e: usize,
     h: usize,
     key: u8,
-    scratch: &mut [u32],
+    scratch: &mut [u64],
 ) -> Compared
     requires { ⌜ inputRefusal (now set) (now plan) ≡ 0 ⌝ }
     requires { ⌜ need (tablesOf (now set)) (planOf (now plan)) ≤ length (now scratch) ⌝ }
@@ -128,7 +128,7 @@ pub(crate) fn sequences_at(
     plan: &[u8],
     i: usize,
     node: Node,
-    scratch: &mut [u32],
+    scratch: &mut [u64],
 ) -> Compared
     requires { ⌜ inputRefusal (now set) (now plan) ≡ 0 ⌝ }
     requires { ⌜ need (tablesOf (now set)) (planOf (now plan)) ≤ length (now scratch) ⌝ }
@@ -157,7 +157,7 @@ fn is_same(outcome: Compared) -> bool
 }
 
 // Whether the tree at place f gives a row.
-fn gives_row(set: &[u8], plan: &[u8], f: usize, scratch: &mut [u32]) -> bool
+fn gives_row(set: &[u8], plan: &[u8], f: usize, scratch: &mut [u64]) -> bool
     requires { ⌜ inputRefusal (now set) (now plan) ≡ 0 ⌝ }
     requires { ⌜ need (tablesOf (now set)) (planOf (now plan)) ≤ length (now scratch) ⌝ }
     ensures { λ r. ⌜ r ≡ not (isEmpty (eval (tablesOf (now (set .entry))) (planAt (now (plan .entry)) f) outside)) ⌝ }
@@ -167,7 +167,7 @@ fn gives_row(set: &[u8], plan: &[u8], f: usize, scratch: &mut [u32]) -> bool
 }
 
 // Whether rows do not stand against the rule at place i.
-pub(crate) fn ready_at(set: &[u8], plan: &[u8], i: usize, node: Node, scratch: &mut [u32]) -> bool
+pub(crate) fn ready_at(set: &[u8], plan: &[u8], i: usize, node: Node, scratch: &mut [u64]) -> bool
     requires { ⌜ inputRefusal (now set) (now plan) ≡ 0 ⌝ }
     requires { ⌜ need (tablesOf (now set)) (planOf (now plan)) ≤ length (now scratch) ⌝ }
     requires { ⌜ (i < nodesOf (now plan)) × (node ≡ nodeAt (now plan) i) ⌝ }

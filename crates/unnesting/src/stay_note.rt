@@ -28,7 +28,7 @@ pub enum StayNote {
 }
 
 // The note at a place of an input of so many tables that 1 to 14 do not turn back, with scratch enough.
-fn note_at(set: &[u8], plan: &[u8], tables: usize, place: usize, scratch: &mut [u32]) -> StayNote
+fn note_at(set: &[u8], plan: &[u8], tables: usize, place: usize, scratch: &mut [u64]) -> StayNote
     requires { ⌜ inputRefusal (now set) (now plan) ≡ 0 ⌝ }
     requires { ⌜ (need (tablesOf (now set)) (planOf (now plan)) ≤ length (now scratch)) × (readSet (now set) ≡ Holds tables) ⌝ }
     ensures { λ r. ⌜ r ≡ noteOf (noteDue (now (set .entry)) (now (plan .entry)) place) ⌝ }
@@ -40,7 +40,7 @@ fn note_at(set: &[u8], plan: &[u8], tables: usize, place: usize, scratch: &mut [
     if !compares(rule_of(node)) {
         return StayNote::None;
     }
-    let mut after = [0u8; 1566];
+    let mut after = [0u8; 2086];
     match possible_at(set, plan, tables, place, node, &mut after) {
         Tried::No => StayNote::None,
         Tried::Yes { length: _, need: _ } => match sequences_at(set, plan, place, node, scratch) {
@@ -51,7 +51,7 @@ fn note_at(set: &[u8], plan: &[u8], tables: usize, place: usize, scratch: &mut [
 }
 
 // The note at a place of a plan: the first difference exactly where U3, U4 or U6 fails there only because the sequences differ.
-pub fn stay_note(set: &[u8], plan: &[u8], place: usize, scratch: &mut [u32]) -> StayNote
+pub fn stay_note(set: &[u8], plan: &[u8], place: usize, scratch: &mut [u64]) -> StayNote
     ensures { λ r. ⌜ StayNoted (now (set .entry)) (now (plan .entry)) place (now (scratch .entry)) (now (scratch .exit)) r ⌝ }
 {
     match check_input(set, plan) {

@@ -50,7 +50,7 @@ pub(crate) fn possible_at(
     out: &mut [u8],
 ) -> Tried
     requires { ⌜ (inputRefusal (now set) (now plan) ≡ 0) × (passes (tablesOf (now set)) (planOf (now plan)) ≡ true) × (readSet (now set) ≡ Holds tables) ⌝ }
-    requires { ⌜ (i < nodesOf (now plan)) × (node ≡ nodeAt (now plan) i) × (length (now out) ≡ 1566) ⌝ }
+    requires { ⌜ (i < nodesOf (now plan)) × (node ≡ nodeAt (now plan) i) × (length (now out) ≡ 2086) ⌝ }
     ensures { λ r. ⌜ Tells (now (set .entry)) (now (out .exit)) (possible (tablesOf (now (set .entry))) (planOf (now (plan .entry))) i) r ⌝ }
 {
     let shape = shape_at(set, plan, i, node);
@@ -76,10 +76,10 @@ fn step_at(
     i: usize,
     node: Node,
     out: &mut [u8],
-    scratch: &mut [u32],
+    scratch: &mut [u64],
 ) -> Tried
     requires { ⌜ (inputRefusal (now set) (now plan) ≡ 0) × (passes (tablesOf (now set)) (planOf (now plan)) ≡ true) × (readSet (now set) ≡ Holds tables) ⌝ }
-    requires { ⌜ (i < nodesOf (now plan)) × (node ≡ nodeAt (now plan) i) × (length (now out) ≡ 1566) ⌝ }
+    requires { ⌜ (i < nodesOf (now plan)) × (node ≡ nodeAt (now plan) i) × (length (now out) ≡ 2086) ⌝ }
     requires { ⌜ need (tablesOf (now set)) (planOf (now plan)) ≤ length (now scratch) ⌝ }
     ensures { λ r. ⌜ Tells (now (set .entry)) (now (out .exit)) (attempt (tablesOf (now (set .entry))) (record { number = numberAt (planOf (now (plan .entry))) i; place = i }) (planOf (now (plan .entry)))) r ⌝ }
 {
@@ -100,10 +100,10 @@ pub(crate) fn smallest_step(
     plan: &[u8],
     tables: usize,
     out: &mut [u8],
-    scratch: &mut [u32],
+    scratch: &mut [u64],
 ) -> Found
     requires { ⌜ (inputRefusal (now set) (now plan) ≡ 0) × (passes (tablesOf (now set)) (planOf (now plan)) ≡ true) × (readSet (now set) ≡ Holds tables) ⌝ }
-    requires { ⌜ (need (tablesOf (now set)) (planOf (now plan)) ≤ length (now scratch)) × (length (now out) ≡ 1566) ⌝ }
+    requires { ⌜ (need (tablesOf (now set)) (planOf (now plan)) ≤ length (now scratch)) × (length (now out) ≡ 2086) ⌝ }
     ensures { λ r. ⌜ Finds (now (set .entry)) (now (out .exit)) (planOf (now (plan .entry))) r ⌝ }
 {
     let n = nodes_of(plan);

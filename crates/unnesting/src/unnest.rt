@@ -38,13 +38,13 @@ fn unnest_accepted(
     cells: usize,
     out_plan: &mut [u8],
     out_steps: &mut [u8],
-    scratch: &mut [u32],
+    scratch: &mut [u64],
 ) -> Unnested
     requires { ⌜ (inputRefusal (now set) (now plan) ≡ 0) × (cells ≡ need (tablesOf (now set)) (planOf (now plan))) × (readSet (now set) ≡ Holds tables) ⌝ }
     ensures { λ r. ⌜ Answered (now (set .entry)) (now (plan .entry)) (now («out_plan» .entry)) (now («out_plan» .exit)) (now («out_steps» .entry)) (now («out_steps» .exit)) (now (scratch .entry)) (now (scratch .exit)) (r .refusal) (r .steps) (r .bytes) ⌝ }
 {
-    let mut current = [0u8; 1566];
-    let mut next = [0u8; 1566];
+    let mut current = [0u8; 2086];
+    let mut next = [0u8; 2086];
     let mut steps = [0u8; 384];
     let ran = run(
         set,
@@ -83,7 +83,7 @@ pub fn unnest(
     plan: &[u8],
     out_plan: &mut [u8],
     out_steps: &mut [u8],
-    scratch: &mut [u32],
+    scratch: &mut [u64],
 ) -> Unnested
     ensures { λ r. ⌜ Answered (now (set .entry)) (now (plan .entry)) (now («out_plan» .entry)) (now («out_plan» .exit)) (now («out_steps» .entry)) (now («out_steps» .exit)) (now (scratch .entry)) (now (scratch .exit)) (r .refusal) (r .steps) (r .bytes) ⌝ }
 {

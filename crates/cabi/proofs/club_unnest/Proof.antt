@@ -9,7 +9,7 @@ use Rattle.cabi.proofs.club_unnest.Reads as reads
 use Rattle.cabi.proofs.club_unnest.Lts as lts
 use Rattle.unnesting.proofs.unnest.unnest.Reads as unnest-reads
 
-few : (c : tie.After-struct-known) → (c .before .before .before .before .before .before .before .unnest .result .steps ≤ 192) × (c .before .before .before .before .before .before .before .unnest .result .bytes ≤ 1542)
+few : (c : tie.After-struct-known) → (c .before .before .before .before .before .before .before .unnest .result .steps ≤ 192) × (c .before .before .before .before .before .before .before .unnest .result .bytes ≤ 2054)
 few c = unnested-few _ _ _ _ _ _ _ _ _ _ _ (c .before .before .before .before .before .before .before .unnest .ensures)
 
 -- src/lib.rt:33:9

@@ -57,8 +57,8 @@ same-length c = search needs
 returns : tie.Need-returns
 returns c =
     let a = c .before .before .before .before .before .before .before .args in
-    let n = 24 * (a .to - a .from) in
-    let start = 6 + 24 * a .from in
+    let n = 32 * (a .to - a .from) in
+    let start = 6 + 32 * a .from in
     (refl, rw (c .before .before .write-bytes .ensures) (part-front (a .plan .now) (a .out .now) start n (start + n - start) (a .at) (omega arith) (omega arith) (omega arith)))
 
 pub copy-nodes-spec : {M : Type 1} → statement M

@@ -27,7 +27,7 @@ returns : tie.Need-returns
 returns c =
     let a = c .before .before .before .before .before .args in
     let e = c .before .before .write-node .ensures in
-    (refl, rw (e .0) (written-front (a .out .now) (a .at) (image (a .node)) (a .at + 24) (omega arith) (omega arith)))
+    (refl, rw (e .0) (written-front (a .out .now) (a .at) (image (a .node)) (a .at + 32) (omega arith) (omega arith)))
 
 pub put-node-spec : {M : Type 1} → statement M
 put-node-spec = tie.close (tie.spec write-node-requires add-result same-length returns)
