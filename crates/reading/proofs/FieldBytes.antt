@@ -172,11 +172,6 @@ same-limit zero x k more h = absurd (omega arith)
 same-limit (suc n) x zero more h = refl
 same-limit (suc n) x (suc k) more h = same-limit n x k more (omega arith)
 
-zero-at : (n k : ℕ) → byteAt (replicate n 0) k ≡ 0
-zero-at zero k = refl
-zero-at (suc n) zero = refl
-zero-at (suc n) (suc k) = zero-at n k
-
 -- bytes with the limit 0
 zeros-are : (n : ℕ) (s more : List ℕ) → length s ≡ n → ((k : ℕ) → k < n → byteAt s k ≤ byteAt (replicate n 0 ++ more) k) → s ≡ replicate n 0
 zeros-are zero [] more e h = refl

@@ -26,10 +26,6 @@ unsigned-bound (suc n) s i h =
     let r = unsigned-bound n s (i + 1) (λ k p q. h k (omega arith) (omega arith)) in
     omega (arith, h i (omega arith) (omega arith), pow-succ' 256 n)
 
-pub low-long : (n x : ℕ) → length (lowBytes n x) ≡ n
-low-long zero x = refl
-low-long (suc n) x = rw (low-long n (x / 256))
-
 -- the number of a number's n low bytes, whatever follows them
 pub low-value : (n x : ℕ) (more : List ℕ) → x < 256 ^ n → unsignedAt n (lowBytes n x ++ more) 0 ≡ x
 low-value zero x more h = omega arith
