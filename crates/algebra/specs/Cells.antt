@@ -1,5 +1,5 @@
 -- Cells, comparisons and aggregates (docs/DEFINITION.md, "Cells", "Tests and comparisons" and "Aggregates"). Definitions only.
--- A cell is held as its signed 32-bit code plus 2^31, so that the order of cells is the order of codes.
+-- A cell is held as its signed 64-bit code plus 2^63, so that the order of cells is the order of codes.
 use Prim.Native.Nat.{ℕ, _+_, _*_, _-_, min, max}
 use mathlib.Core.Bool.{Bool, true, false, not, cond, _&&_, _||_}
 use mathlib.Core.List.{List, [], _∷_, foldr}
@@ -18,23 +18,23 @@ pub data Aggregate : Type 0 where
   count : Aggregate
   over : Summary → ℕ → Aggregate
 
--- code -2,147,483,648
+-- code -9,223,372,036,854,775,808
 abbrev pub blank : ℕ
 blank = 0
 
--- code 2,147,483,647
+-- code 9,223,372,036,854,775,807
 abbrev pub offScale : ℕ
-offScale = 4294967295
+offScale = 18446744073709551615
 
 -- the cell of the number 0
 abbrev pub origin : ℕ
-origin = 2147483648
+origin = 9223372036854775808
 
 -- the largest number
 abbrev pub reach : ℕ
-reach = 2000000000
+reach = 9000000000000000
 
--- a cell of a number from -2,000,000,000 to 2,000,000,000
+-- a cell of a number from -9,000,000,000,000,000 to 9,000,000,000,000,000
 abbrev pub inRange : ℕ → Bool
 inRange x = leb (origin - reach) x && leb x (origin + reach)
 

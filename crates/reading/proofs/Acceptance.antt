@@ -18,7 +18,7 @@ use Rattle.algebra.proofs.Needs.{share-most}
 use Rattle.algebra.proofs.Refusals.{refusal-none, refusal-0, refusal-11, refusal-12, refusal-13, refusal-14}
 use Rattle.reading.specs.Bytes.{startsWith, allBelow}
 use Rattle.reading.specs.TableSet.{tableMark, sizeAllowed, cellBytes, cellsOf, cellsAllowed, readTable, readFrom, readSet, afterTable, amountOf, knownTables, tablesOf}
-use Rattle.reading.specs.Plan.{readPlan, nodesOf, planMark, nodesAllowed}
+use Rattle.reading.specs.Plan.{nodeSize, readPlan, nodesOf, planMark, nodesAllowed}
 use Rattle.reading.specs.Tree.{operatorAt, planAt, planOf, wholeTree}
 use Rattle.reading.specs.Nodes.{idsOf}
 use Rattle.reading.specs.Check.{setNumber, planNumber, orNext, treeNumber, refusalOver, planRefusal, inputRefusal, answer, checkOf, checkOver}
@@ -93,7 +93,7 @@ unfolding readPlan
 plan-positive plan k e =
     let n : ℕ = nodesOf plan in
     subst PlanPositive e
-    (plan-outcomes (ltb (length plan) 6) (not (startsWith planMark plan)) (not (leb 1 n && leb n 64)) (not (eqb (length plan) (6 + 24 * n))) (not (nodesAllowed n plan)) n)
+    (plan-outcomes (ltb (length plan) 6) (not (startsWith planMark plan)) (not (leb 1 n && leb n 64)) (not (eqb (length plan) (6 + nodeSize * n))) (not (nodesAllowed n plan)) n)
 
 -- ---- the node count of a plan that was read
 
@@ -114,7 +114,7 @@ pub plan-count : (plan : List ℕ) (n : ℕ) → readPlan plan ≡ Nodes n → n
 unfolding readPlan
 plan-count plan n e =
     let k : ℕ = nodesOf plan in
-    count-by (ltb (length plan) 6) (not (startsWith planMark plan)) (not (leb 1 k && leb k 64)) (not (eqb (length plan) (6 + 24 * k))) (not (nodesAllowed k plan)) k n e
+    count-by (ltb (length plan) 6) (not (startsWith planMark plan)) (not (leb 1 k && leb k 64)) (not (eqb (length plan) (6 + nodeSize * k))) (not (nodesAllowed k plan)) k n e
 
 -- ---- the check by its parts
 

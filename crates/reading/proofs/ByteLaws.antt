@@ -16,9 +16,8 @@ use Rattle.algebra.specs.Places.{size}
 use Rattle.algebra.specs.Names.{measured, binaryNames, innerFree, unaryFree, free}
 use Rattle.algebra.specs.Refusals.{byte}
 use Rattle.algebra.proofs.Lists.{all-member, all-from}
-use Rattle.reading.specs.Bytes.{byteAt, u32At}
-use Rattle.reading.specs.TableSet.{wordOf}
-use Rattle.reading.specs.Plan.{nodePart, testOf, nodeOf, nodeAt, nodesOf}
+use Rattle.reading.specs.Bytes.{byteAt}
+use Rattle.reading.specs.Plan.{nodeSize, testNumber, nodePart, testOf, nodeOf, nodeAt, nodesOf}
 use Rattle.reading.specs.Tree.{formOf, aggregateOf, operatorOf, planAt}
 use Rattle.reading.specs.declared.plan.Test.the-variants.{Always, Columns, Number}
 use Rattle.reading.specs.declared.plan.Node.{Node}
@@ -75,24 +74,24 @@ module _ (part : List ℕ) (h : Bytes part) where
     tested = by (eqb (byteAt part 16) 0) (eqb (byteAt part 16) 1);
   }
     where
-      by : (a b : Bool) → all byte (formNames (formOf (if a then Always else if b then Columns (byteAt part 17) (byteAt part 19) (byteAt part 20) else Number (byteAt part 17) (byteAt part 19) (wordOf (u32At part 20))))) ≡ true
+      by : (a b : Bool) → all byte (formNames (formOf (if a then Always else if b then Columns (byteAt part 17) (byteAt part 19) (byteAt part 20) else Number (byteAt part 17) (byteAt part 19) (testNumber part)))) ≡ true
       by true b = refl
       by false true = rw (small-at 19, small-at 20)
       by false false = rw (small-at 19)
 
 module _ (plan : List ℕ) (h : Bytes plan) where
   part-bytes : (i : ℕ) → Bytes (nodePart plan i)
-  part-bytes i k = elim (decLt k 24) [
-    | yes l ↦ rw (getD-take 24 (drop (6 + 24 * i) plan) k 0 l, getD-drop (6 + 24 * i) plan k 0) (h (6 + 24 * i + k))
+  part-bytes i k = elim (decLt k nodeSize) [
+    | yes l ↦ rw (getD-take nodeSize (drop (6 + nodeSize * i) plan) k 0 l, getD-drop (6 + nodeSize * i) plan k 0) (h (6 + nodeSize * i + k))
     | no l ↦ rw (List·getD-eq-default (nodePart plan i) 0 (past l)) (omega arith)
   ]
     where
-      past : (k < 24 → ⊥) → length (nodePart plan i) ≤ k
-      past l = omega (arith, length-take 24 (drop (6 + 24 * i) plan))
+      past : (k < nodeSize → ⊥) → length (nodePart plan i) ≤ k
+      past l = omega (arith, length-take nodeSize (drop (6 + nodeSize * i) plan))
 
   small-node : (i : ℕ) → Small (nodeAt plan i)
   unfolding nodeAt
-  small-node i = by (leb (30 + 24 * i) (length plan))
+  small-node i = by (leb (6 + nodeSize * i + nodeSize) (length plan))
     where
       by : (b : Bool) → Small (if b then nodeOf (nodePart plan i) else nodeOf [])
       by true = node-small (nodePart plan i) (part-bytes i)

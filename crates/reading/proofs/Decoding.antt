@@ -11,7 +11,7 @@ use Rattle.algebra.specs.Plans.{Test, unit, scan, Unary, select, project, disti
 use Rattle.algebra.specs.Places.{Operator, leafNode, unaryNode, binaryNode}
 use Rattle.algebra.specs.Refusals.{byte, listFields, testFields, aggregateFields, fields, unaryFields, binaryFields}
 use Rattle.reading.specs.Bytes.{byteAt, allBelow}
-use Rattle.reading.specs.Plan.{kindTable, kindEntry, limited, listEnds, listAllowed, testAllowed, countAllowed, fieldsAllowed, testOf, nodeOf}
+use Rattle.reading.specs.Plan.{nodeSize, kindTable, kindEntry, limited, listEnds, listAllowed, testAllowed, countAllowed, fieldsAllowed, testOf, nodeOf}
 use Rattle.reading.specs.Tree.{operatorBy, operatorOf}
 use Rattle.reading.specs.Encoding.{comparisonByte, markByte, aggregateByte, columnByte, testBytes, noTest, listBytes, fieldBytes, nodeBytes}
 use Rattle.reading.proofs.FieldBytes.{and-left, and-right, byte-is, comparison-back, comparison-limit, comparison-small, mark-back, mark-limit, mark-small, aggregate-back, aggregate-limit, aggregate-small, column-limit, column-small, column-count, TestBack, test-back, ListBack, list-back}
@@ -26,16 +26,16 @@ allowed-when : (part : List ℕ) → ltb (byteAt part 0) 15 ≡ true → limited
 unfolding fieldsAllowed
 allowed-when part k l c s t = both _ _ k (both _ _ l (both _ _ c (both _ _ s t)))
 
--- an operator is read back from its bytes, which are 24 and allowed
+-- an operator is read back from its bytes, which are a node's and allowed
 pub record Decoded (op : Operator) : Type 0 where
   pub kept : operatorOf (nodeOf (nodeBytes op)) ≡ op
   pub allowed : fieldsAllowed (nodeBytes op) ≡ true
-  pub long : length (nodeBytes op) ≡ 24
+  pub long : length (nodeBytes op) ≡ nodeSize
   pub small : all byte (nodeBytes op) ≡ true
 
 -- the bytes of a test, and of a list, written out
 abbrev testOut : {t : Test} → TestBack t → List ℕ
-testOut B = B .f ∷ B .c ∷ B .m ∷ B .l ∷ B .x ∷ B .y ∷ B .z ∷ B .w ∷ []
+testOut B = B .f ∷ B .c ∷ B .m ∷ B .l ∷ B .rest
 
 abbrev listOut : {ids : List ℕ} → ListBack ids → List ℕ
 listOut B = B .n ∷ B .a ∷ B .b ∷ B .c ∷ B .d ∷ B .e ∷ B .f ∷ B .g ∷ []
@@ -45,7 +45,7 @@ or-true true = refl
 or-true false = refl
 
 module _ {op : Operator} where
-  decoded-from : (part : List ℕ) → nodeBytes op ≡ part → operatorOf (nodeOf part) ≡ op → fieldsAllowed part ≡ true → length part ≡ 24 → all byte part ≡ true
+  decoded-from : (part : List ℕ) → nodeBytes op ≡ part → operatorOf (nodeOf part) ≡ op → fieldsAllowed part ≡ true → length part ≡ nodeSize → all byte part ≡ true
       → Decoded op
   decoded-from part e k a l b =
       record { kept = ap (λ (s : List ℕ). operatorOf (nodeOf s)) e ∙ k; allowed = ap fieldsAllowed e ∙ a; long = ap length e ∙ l; small = ap (all byte) e ∙ b }
@@ -56,7 +56,7 @@ module _ {op : Operator} where
       → all byte (head ++ (listBytes [] ++ testOut B)) ≡ true → Decoded op
   from-test head B e l k a b =
       decoded-from (head ++ (listBytes [] ++ testOut B)) (e ∙ ap (λ (s : List ℕ). head ++ (listBytes [] ++ s)) (B .bytes)) k a
-      (length-append head (listBytes [] ++ testOut B) ∙ rw l) b
+      (length-append head (listBytes [] ++ testOut B) ∙ rw (l, B .long)) b
 
   from-list : {ids : List ℕ} (head : List ℕ) (B : ListBack ids) → nodeBytes op ≡ head ++ (listBytes ids ++ noTest) → length head ≡ 8
       → operatorOf (nodeOf (head ++ (listOut B ++ noTest))) ≡ op → fieldsAllowed (head ++ (listOut B ++ noTest)) ≡ true
@@ -229,5 +229,5 @@ decoded (binaryNode b) h = binary-back b h
 
 -- An operator whose fields can be written is read back from its bytes.
 pub node-operator : (op : Operator) → fields op ≡ true
-    → (operatorOf (nodeOf (nodeBytes op)) ≡ op) × (fieldsAllowed (nodeBytes op) ≡ true) × (length (nodeBytes op) ≡ 24)
+    → (operatorOf (nodeOf (nodeBytes op)) ≡ op) × (fieldsAllowed (nodeBytes op) ≡ true) × (length (nodeBytes op) ≡ nodeSize)
 node-operator op h = let d = decoded op h in (d .kept, d .allowed, d .long)

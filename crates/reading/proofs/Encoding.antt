@@ -9,14 +9,14 @@ use lib.Dec.{leb, ltb}
 use borrow.Author.Tests.{leb-true, ltb-true}
 use Rattle.algebra.specs.Refusals.{fields}
 use Rattle.reading.specs.Bytes.{byteAt, allBelow}
-use Rattle.reading.specs.Plan.{kindTable, kindEntry, limited, listEnds, listAllowed, testAllowed, countAllowed, fieldsAllowed, testOf, nodeOf}
+use Rattle.reading.specs.Plan.{nodeSize, kindTable, kindEntry, limited, listEnds, listAllowed, testAllowed, countAllowed, fieldsAllowed, testOf, nodeOf}
 use Rattle.reading.specs.Tree.{operatorBy, operatorOf}
 use Rattle.reading.specs.Encoding.{listBytes, fieldBytes, nodeBytes}
 use Rattle.reading.proofs.Laws.{all-at}
 use Rattle.reading.proofs.Operators.{by-kind}
 use Rattle.reading.proofs.FieldBytes.{and-left, and-right, is-zero, is-byte, comparison-byte, mark-byte, aggregate-bytes, test-bytes, no-test, endsIn, list-bytes, list-fields, Bytes}
 
--- ---- 24 bytes
+-- ---- a node's bytes: those of its fields, of its list, of its test
 
 -- a list of length 8 and more starts with 8 numbers
 eight : (P : List ℕ → Type 0) (n : ℕ) (s : List ℕ) → length s ≡ 8 + n
@@ -31,9 +31,12 @@ eight P n (a ∷ b ∷ c ∷ d ∷ e ∷ f ∷ []) q k = absurd (omega arith)
 eight P n (a ∷ b ∷ c ∷ d ∷ e ∷ f ∷ g ∷ []) q k = absurd (omega arith)
 eight P n (a ∷ b ∷ c ∷ d ∷ e ∷ f ∷ g ∷ h ∷ r) q k = k a b c d e f g h r (omega arith)
 
-none : (P : List ℕ → Type 0) (s : List ℕ) → length s ≡ 0 → P [] → P s
-none P [] q k = k
-none P (a ∷ s) q k = absurd (omega arith)
+four : (P : List ℕ → Type 0) (n : ℕ) (s : List ℕ) → length s ≡ 4 + n → ((a b c d : ℕ) (r : List ℕ) → length r ≡ n → P (a ∷ b ∷ c ∷ d ∷ r)) → P s
+four P n [] q k = absurd (omega arith)
+four P n (a ∷ []) q k = absurd (omega arith)
+four P n (a ∷ b ∷ []) q k = absurd (omega arith)
+four P n (a ∷ b ∷ c ∷ []) q k = absurd (omega arith)
+four P n (a ∷ b ∷ c ∷ d ∷ r) q k = k a b c d r (omega arith)
 
 -- what fields that are allowed say, one by one
 record Allowed (part : List ℕ) : Type 0 where
@@ -90,16 +93,13 @@ fields-are k p₁ p₂ p₃ p₄ p₅ p₆ p₇ = rw (p₁, p₂, p₃, p₄, p�
 zero-is : (a : ℕ) → leb a 0 ≡ true → 0 ≡ a
 zero-is a h = sym (is-zero a h)
 
--- a node's bytes after its kind
-module _ (a i l r c q z n l₁ l₂ l₃ l₄ l₅ l₆ l₇ f o m s x y u w : ℕ) where
+-- a node's bytes after its kind; t are those of the test after its first four
+module _ (a i l r c q z n l₁ l₂ l₃ l₄ l₅ l₆ l₇ f o m s : ℕ) (t : List ℕ) (long : length t ≡ 12) where
   abbrev listPart : List ℕ
   listPart = l₁ ∷ l₂ ∷ l₃ ∷ l₄ ∷ l₅ ∷ l₆ ∷ l₇ ∷ []
 
-  abbrev testPart : List ℕ
-  testPart = f ∷ o ∷ m ∷ s ∷ x ∷ y ∷ u ∷ w ∷ []
-
   abbrev bytesOf : ℕ → List ℕ
-  bytesOf k = k ∷ a ∷ i ∷ l ∷ r ∷ c ∷ q ∷ z ∷ n ∷ l₁ ∷ l₂ ∷ l₃ ∷ l₄ ∷ l₅ ∷ l₆ ∷ l₇ ∷ f ∷ o ∷ m ∷ s ∷ x ∷ y ∷ u ∷ w ∷ []
+  bytesOf k = k ∷ a ∷ i ∷ l ∷ r ∷ c ∷ q ∷ z ∷ n ∷ l₁ ∷ l₂ ∷ l₃ ∷ l₄ ∷ l₅ ∷ l₆ ∷ l₇ ∷ f ∷ o ∷ m ∷ s ∷ t
 
   list-ends : (k : ℕ) → listEnds (bytesOf k) n ≡ endsIn n listPart
   unfolding listEnds allBelow
@@ -137,7 +137,7 @@ module _ (a i l r c q z n l₁ l₂ l₃ l₄ l₅ l₆ l₇ f o m s x y u w : �
             together
             (fields-are 0 (zero-is a (A .arg)) (zero-is i (A .id)) (zero-is l (A .left)) (zero-is r (A .right)) (zero-is c (A .comparison)) (zero-is q (A .column)) (is-zero z (A .rest)))
             (no-list 0 (A .list))
-            (sym (no-test f o m s x y u w (and-left _ _ (A .test))));
+            (sym (no-test f o m s t long (and-left _ _ (A .test))));
         allowed = λ b. refl;
       }
 
@@ -149,14 +149,14 @@ module _ (a i l r c q z n l₁ l₂ l₃ l₄ l₅ l₆ l₇ f o m s x y u w : �
             together
             (fields-are 1 refl refl (zero-is l (A .left)) (zero-is r (A .right)) (zero-is c (A .comparison)) (zero-is q (A .column)) (is-zero z (A .rest)))
             (no-list 1 (A .list))
-            (sym (no-test f o m s x y u w (and-left _ _ (A .test))));
+            (sym (no-test f o m s t long (and-left _ _ (A .test))));
         allowed = λ b. rw (is-byte a (A .arg), is-byte i (A .id));
       }
 
   select-bytes : Allowed (bytesOf 2) → Encoded (bytesOf 2)
   unfolding nodeBytes operatorBy nodeOf testOf fields
   select-bytes A =
-      let T = test-bytes f o m s x y u w (A .test) in
+      let T = test-bytes f o m s t long (A .test) in
       record {
         bytes =
             together
@@ -175,7 +175,7 @@ module _ (a i l r c q z n l₁ l₂ l₃ l₄ l₅ l₆ l₇ f o m s x y u w : �
             together
             (fields-are 3 (zero-is a (A .arg)) (zero-is i (A .id)) (zero-is l (A .left)) (zero-is r (A .right)) (zero-is c (A .comparison)) (zero-is q (A .column)) (is-zero z (A .rest)))
             (L .0)
-            (sym (no-test f o m s x y u w (and-left _ _ (A .test))));
+            (sym (no-test f o m s t long (and-left _ _ (A .test))));
         allowed = λ b. list-fields listPart n refl (L .1) (L .2) (list-of b);
       }
 
@@ -188,7 +188,7 @@ module _ (a i l r c q z n l₁ l₂ l₃ l₄ l₅ l₆ l₇ f o m s x y u w : �
             together
             (fields-are 4 (zero-is a (A .arg)) (zero-is i (A .id)) (zero-is l (A .left)) (zero-is r (A .right)) (zero-is c (A .comparison)) (zero-is q (A .column)) (is-zero z (A .rest)))
             (L .0)
-            (sym (no-test f o m s x y u w (and-left _ _ (A .test))));
+            (sym (no-test f o m s t long (and-left _ _ (A .test))));
         allowed = λ b. list-fields listPart n refl (L .1) (L .2) (list-of b);
       }
 
@@ -200,14 +200,14 @@ module _ (a i l r c q z n l₁ l₂ l₃ l₄ l₅ l₆ l₇ f o m s x y u w : �
             together
             (fields-are 5 (zero-is a (A .arg)) (zero-is i (A .id)) (zero-is l (A .left)) (zero-is r (A .right)) (zero-is c (A .comparison)) (zero-is q (A .column)) (is-zero z (A .rest)))
             (no-list 5 (A .list))
-            (sym (no-test f o m s x y u w (and-left _ _ (A .test))));
+            (sym (no-test f o m s t long (and-left _ _ (A .test))));
         allowed = λ b. refl;
       }
 
   semi-bytes : Allowed (bytesOf 6) → Encoded (bytesOf 6)
   unfolding nodeBytes operatorBy nodeOf testOf fields
   semi-bytes A =
-      let T = test-bytes f o m s x y u w (A .test) in
+      let T = test-bytes f o m s t long (A .test) in
       record {
         bytes =
             together
@@ -220,7 +220,7 @@ module _ (a i l r c q z n l₁ l₂ l₃ l₄ l₅ l₆ l₇ f o m s x y u w : �
   anti-bytes : Allowed (bytesOf 7) → Encoded (bytesOf 7)
   unfolding nodeBytes operatorBy nodeOf testOf fields
   anti-bytes A =
-      let T = test-bytes f o m s x y u w (A .test) in
+      let T = test-bytes f o m s t long (A .test) in
       record {
         bytes =
             together
@@ -233,7 +233,7 @@ module _ (a i l r c q z n l₁ l₂ l₃ l₄ l₅ l₆ l₇ f o m s x y u w : �
   some-bytes : Allowed (bytesOf 8) → Encoded (bytesOf 8)
   unfolding nodeBytes operatorBy nodeOf testOf fields
   some-bytes A =
-      let T = test-bytes f o m s x y u w (A .test) in
+      let T = test-bytes f o m s t long (A .test) in
       record {
         bytes =
             together
@@ -246,7 +246,7 @@ module _ (a i l r c q z n l₁ l₂ l₃ l₄ l₅ l₆ l₇ f o m s x y u w : �
   every-bytes : Allowed (bytesOf 9) → Encoded (bytesOf 9)
   unfolding nodeBytes operatorBy nodeOf testOf fields
   every-bytes A =
-      let T = test-bytes f o m s x y u w (A .test) in
+      let T = test-bytes f o m s t long (A .test) in
       record {
         bytes =
             together
@@ -259,7 +259,7 @@ module _ (a i l r c q z n l₁ l₂ l₃ l₄ l₅ l₆ l₇ f o m s x y u w : �
   fold-bytes : Allowed (bytesOf 10) → Encoded (bytesOf 10)
   unfolding nodeBytes operatorBy nodeOf testOf fields
   fold-bytes A =
-      let T = test-bytes f o m s x y u w (A .test) in
+      let T = test-bytes f o m s t long (A .test) in
       let G = aggregate-bytes a q (A .arg) (A .column) (A .counts) in
       record {
         bytes =
@@ -278,14 +278,14 @@ module _ (a i l r c q z n l₁ l₂ l₃ l₄ l₅ l₆ l₇ f o m s x y u w : �
             together
             (fields-are 11 (zero-is a (A .arg)) (zero-is i (A .id)) (zero-is l (A .left)) (zero-is r (A .right)) (zero-is c (A .comparison)) (zero-is q (A .column)) (is-zero z (A .rest)))
             (no-list 11 (A .list))
-            (sym (no-test f o m s x y u w (and-left _ _ (A .test))));
+            (sym (no-test f o m s t long (and-left _ _ (A .test))));
         allowed = λ b. refl;
       }
 
   pair-bytes : Allowed (bytesOf 12) → Encoded (bytesOf 12)
   unfolding nodeBytes operatorBy nodeOf testOf fields
   pair-bytes A =
-      let T = test-bytes f o m s x y u w (A .test) in
+      let T = test-bytes f o m s t long (A .test) in
       let G = aggregate-bytes a q (A .arg) (A .column) (A .counts) in
       record {
         bytes =
@@ -299,7 +299,7 @@ module _ (a i l r c q z n l₁ l₂ l₃ l₄ l₅ l₆ l₇ f o m s x y u w : �
   group-bytes : Allowed (bytesOf 13) → Encoded (bytesOf 13)
   unfolding nodeBytes operatorBy nodeOf testOf fields
   group-bytes A =
-      let T = test-bytes f o m s x y u w (A .test) in
+      let T = test-bytes f o m s t long (A .test) in
       let G = aggregate-bytes a q (A .arg) (A .column) (A .counts) in
       record {
         bytes =
@@ -319,7 +319,7 @@ module _ (a i l r c q z n l₁ l₂ l₃ l₄ l₅ l₆ l₇ f o m s x y u w : �
             together
             (fields-are 14 (mark-byte a (A .arg)) (zero-is i (A .id)) (zero-is l (A .left)) (zero-is r (A .right)) (zero-is c (A .comparison)) (zero-is q (A .column)) (is-zero z (A .rest)))
             (L .0)
-            (sym (no-test f o m s x y u w (and-left _ _ (A .test))));
+            (sym (no-test f o m s t long (and-left _ _ (A .test))));
         allowed = λ b. list-fields listPart n refl (L .1) (L .2) (list-of b);
       }
 
@@ -328,21 +328,19 @@ module _ (a i l r c q z n l₁ l₂ l₃ l₄ l₅ l₆ l₇ f o m s x y u w : �
       by-kind (λ k. Allowed (bytesOf k) → Encoded (bytesOf k)) unit-bytes scan-bytes select-bytes project-bytes distinct-bytes cross-bytes semi-bytes anti-bytes some-bytes every-bytes fold-bytes each-bytes pair-bytes group-bytes sort-bytes
       (λ k h A. absurd (omega (arith, ltb-true k 15 (A .kind))))
 
-pub node-encoded : (part : List ℕ) → length part ≡ 24 → fieldsAllowed part ≡ true → Encoded part
+pub node-encoded : (part : List ℕ) → length part ≡ nodeSize → fieldsAllowed part ≡ true → Encoded part
 node-encoded part e =
-    eight (λ s. fieldsAllowed s ≡ true → Encoded s) 16 part e
+    eight (λ s. fieldsAllowed s ≡ true → Encoded s) 24 part e
     (λ k a i l r c q z s₁ e₁.
-    eight (λ s. fieldsAllowed (k ∷ a ∷ i ∷ l ∷ r ∷ c ∷ q ∷ z ∷ s) ≡ true → Encoded (k ∷ a ∷ i ∷ l ∷ r ∷ c ∷ q ∷ z ∷ s)) 8 s₁ e₁
+    eight (λ s. fieldsAllowed (k ∷ a ∷ i ∷ l ∷ r ∷ c ∷ q ∷ z ∷ s) ≡ true → Encoded (k ∷ a ∷ i ∷ l ∷ r ∷ c ∷ q ∷ z ∷ s)) 16 s₁ e₁
     (λ n l₁ l₂ l₃ l₄ l₅ l₆ l₇ s₂ e₂.
-    eight (λ s. fieldsAllowed (k ∷ a ∷ i ∷ l ∷ r ∷ c ∷ q ∷ z ∷ n ∷ l₁ ∷ l₂ ∷ l₃ ∷ l₄ ∷ l₅ ∷ l₆ ∷ l₇ ∷ s) ≡ true → Encoded (k ∷ a ∷ i ∷ l ∷ r ∷ c ∷ q ∷ z ∷ n ∷ l₁ ∷ l₂ ∷ l₃ ∷ l₄ ∷ l₅ ∷ l₆ ∷ l₇ ∷ s)) 0 s₂ e₂
-    (λ f o m s x y u w s₃ e₃.
-    none (λ t. fieldsAllowed (k ∷ a ∷ i ∷ l ∷ r ∷ c ∷ q ∷ z ∷ n ∷ l₁ ∷ l₂ ∷ l₃ ∷ l₄ ∷ l₅ ∷ l₆ ∷ l₇ ∷ f ∷ o ∷ m ∷ s ∷ x ∷ y ∷ u ∷ w ∷ t) ≡ true → Encoded (k ∷ a ∷ i ∷ l ∷ r ∷ c ∷ q ∷ z ∷ n ∷ l₁ ∷ l₂ ∷ l₃ ∷ l₄ ∷ l₅ ∷ l₆ ∷ l₇ ∷ f ∷ o ∷ m ∷ s ∷ x ∷ y ∷ u ∷ w ∷ t)) s₃ e₃
-    (λ h. by-every-kind a i l r c q z n l₁ l₂ l₃ l₄ l₅ l₆ l₇ f o m s x y u w k (allowed-fields _ h)))))
+    four (λ s. fieldsAllowed (k ∷ a ∷ i ∷ l ∷ r ∷ c ∷ q ∷ z ∷ n ∷ l₁ ∷ l₂ ∷ l₃ ∷ l₄ ∷ l₅ ∷ l₆ ∷ l₇ ∷ s) ≡ true → Encoded (k ∷ a ∷ i ∷ l ∷ r ∷ c ∷ q ∷ z ∷ n ∷ l₁ ∷ l₂ ∷ l₃ ∷ l₄ ∷ l₅ ∷ l₆ ∷ l₇ ∷ s)) 12 s₂ e₂
+    (λ f o m s t long h. by-every-kind a i l r c q z n l₁ l₂ l₃ l₄ l₅ l₆ l₇ f o m s t long k (allowed-fields _ h))))
 
 -- A node whose fields are allowed is the encoding of its operator, byte for byte.
-pub node-bytes : (part : List ℕ) → length part ≡ 24 → fieldsAllowed part ≡ true → nodeBytes (operatorOf (nodeOf part)) ≡ part
+pub node-bytes : (part : List ℕ) → length part ≡ nodeSize → fieldsAllowed part ≡ true → nodeBytes (operatorOf (nodeOf part)) ≡ part
 node-bytes part e h = node-encoded part e h .bytes
 
 -- Its operator's fields can be written. A list's entries have no limit of their own, so this asks that they are bytes.
-pub fields-of : (part : List ℕ) → length part ≡ 24 → fieldsAllowed part ≡ true → Bytes part → fields (operatorOf (nodeOf part)) ≡ true
+pub fields-of : (part : List ℕ) → length part ≡ nodeSize → fieldsAllowed part ≡ true → Bytes part → fields (operatorOf (nodeOf part)) ≡ true
 fields-of part e h = node-encoded part e h .allowed

@@ -1,24 +1,26 @@
 -- A node's fields and their bytes, there and back: comparisons, marks, aggregates, tests and lists. Assumes nothing.
 use Prim.Native.Nat.{ℕ, zero, suc, _+_, _-_, _*_, _/_, _%_, _^_, _≤_, _<_}
+use native.Mathlib.Nat.{le-refl}
 use native.Mathlib.Omega.{arith}
-use mathlib.Core.Path.{_≡_, refl, sym, ap, _∙_}
+use mathlib.Core.Path.{_≡_, refl, sym, ap, ap₂, _∙_}
 use mathlib.Core.Bool.{Bool, true, false, not, _&&_, _||_, false≢true}
 use mathlib.Core.List.{List, [], _∷_, _++_}
-use lib.ListN.{length, take, drop, replicate, drop-of-length-le}
+use lib.ListN.{length, take, drop, replicate, length-drop, length-replicate, take-append-drop, drop-of-length-le}
 use lib.Dec.{leb, ltb, eqb}
-use lib.Seq.{length-take-le}
+use lib.Seq.{length-take-le, getD-drop, drop-at}
 use borrow.Author.Tests.{leb-true, le-leb, ltb-true, lt-ltb, le-ltb, eqb-true}
 use Rattle.algebra.specs.Lists.{if_then_else_, all}
 use Rattle.algebra.specs.Cells.{Comparison, eq, ne, lt, le, gt, ge, sum, least, greatest, Aggregate, count, over, inRange, origin, reach}
 use Rattle.algebra.specs.Plans.{always, columnsOf, numberOf, Test, test}
 use Rattle.algebra.specs.Refusals.{byte, listFields, testFields, aggregateFields}
-use Rattle.reading.specs.Bytes.{byteAt, u32At, allBelow}
-use Rattle.reading.specs.TableSet.{wordOf}
+use Rattle.reading.specs.Bytes.{byteAt, unsignedAt, allBelow}
+use Rattle.reading.specs.TableSet.{cellSize, wordOf}
 use Rattle.reading.specs.Plan.{testLimits, limited, testRow}
 use Rattle.reading.specs.Tree.{comparisonOf, aggregateOf, formOf}
 use Rattle.reading.specs.declared.plan.Test.the-variants.{Always, Columns, Number}
-use Rattle.reading.specs.Encoding.{comparisonByte, markByte, aggregateByte, columnByte, numberBytes, testBytes, noTest, listBytes}
-use Rattle.reading.proofs.Laws.{all-at}
+use Rattle.reading.specs.Encoding.{comparisonByte, markByte, aggregateByte, columnByte, lowBytes, numberBytes, testBytes, noTest, listBytes}
+use Rattle.reading.proofs.Laws.{all-at, all-holds}
+use Rattle.reading.proofs.NumberBytes.{unsigned-bound, low-value, value-low}
 
 -- ---- tests that hold
 
@@ -143,89 +145,142 @@ aggregate-bytes a c h k z = go a (leb-true a 3 h) z
 -- ---- a test's number
 
 -- adding half the range twice comes round
-pub word-back : (x : ℕ) → x < 2 ^ 32 → wordOf (wordOf x) ≡ x
+pub word-back : (x : ℕ) → x < 2 ^ 64 → wordOf (wordOf x) ≡ x
 word-back x h = omega arith
 
-pub number-bytes : (a b c d : ℕ) → a ≤ 255 → b ≤ 255 → c ≤ 255 → d ≤ 255
-    → numberBytes (wordOf (a + 256 * b + 65536 * c + 16777216 * d)) ≡ a ∷ b ∷ c ∷ d ∷ []
-number-bytes a b c d h i j k =
-    let e = word-back (a + 256 * b + 65536 * c + 16777216 * d) (omega arith) in
-    let p : (a + 256 * b + 65536 * c + 16777216 * d) % 256 ≡ a = low (b + 256 * c + 65536 * d) a h (omega arith) in
-    let q₀ : (a + 256 * b + 65536 * c + 16777216 * d) / 256 ≡ b + 256 * c + 65536 * d = omega arith in
-    let q : (b + 256 * c + 65536 * d) % 256 ≡ b = low (c + 256 * d) b i (omega arith) in
-    let r₀ : (a + 256 * b + 65536 * c + 16777216 * d) / 65536 ≡ c + 256 * d = omega arith in
-    let r : (c + 256 * d) % 256 ≡ c = low d c j (omega arith) in
-    let s : (a + 256 * b + 65536 * c + 16777216 * d) / 16777216 ≡ d = omega arith in
-    rw (e, p, q₀, q, r₀, r, s)
+-- ---- bytes and their limits
+
+limited-at : (n : ℕ) (s limits : List ℕ) → limited n s limits ≡ true → (k : ℕ) → k < n → byteAt s k ≤ byteAt limits k
+limited-at n s limits h k l = leb-true _ _ (all-at n (λ j. leb (byteAt s j) (byteAt limits j)) h k l)
+
+-- four bytes, and the rest after them
+four-limited : (n f c m l a b d e : ℕ) (s limits : List ℕ) → leb f a ≡ true → leb c b ≡ true → leb m d ≡ true → leb l e ≡ true
+    → ((k : ℕ) → byteAt s k ≤ byteAt limits k) → limited (4 + n) (f ∷ c ∷ m ∷ l ∷ s) (a ∷ b ∷ d ∷ e ∷ limits) ≡ true
+four-limited n f c m l a b d e s limits p q r t h =
+    all-holds (4 + n) (λ j. leb (byteAt (f ∷ c ∷ m ∷ l ∷ s) j) (byteAt (a ∷ b ∷ d ∷ e ∷ limits) j)) (λ k _. at k)
   where
-    low : (q a : ℕ) → {x : ℕ} → a ≤ 255 → x ≡ a + 256 * q → x % 256 ≡ a
-    low q a l e = omega arith
+    at : (k : ℕ) → leb (byteAt (f ∷ c ∷ m ∷ l ∷ s) k) (byteAt (a ∷ b ∷ d ∷ e ∷ limits) k) ≡ true
+    at zero = p
+    at (suc zero) = q
+    at (suc (suc zero)) = r
+    at (suc (suc (suc zero))) = t
+    at (suc (suc (suc (suc k)))) = le-leb _ _ (h k)
 
-pub number-back : (w : ℕ) → inRange w ≡ true → u32At (numberBytes w) 0 ≡ wordOf w
-number-back w h = omega arith
+-- n equal limits in a row
+same-limit : (n x k : ℕ) (more : List ℕ) → k < n → byteAt (replicate n x ++ more) k ≡ x
+same-limit zero x k more h = absurd (omega arith)
+same-limit (suc n) x zero more h = refl
+same-limit (suc n) x (suc k) more h = same-limit n x k more (omega arith)
 
--- ---- a test's 8 bytes
+-- bytes with the limit 0
+zeros-are : (n : ℕ) (s more : List ℕ) → length s ≡ n → ((k : ℕ) → k < n → byteAt s k ≤ byteAt (replicate n 0 ++ more) k) → s ≡ replicate n 0
+zeros-are zero [] more e h = refl
+zeros-are zero (x ∷ s) more e h = absurd (omega arith)
+zeros-are (suc n) [] more e h = absurd (omega arith)
+zeros-are (suc n) (x ∷ s) more e h =
+    let z : x ≡ 0 = omega (arith, h 0 (omega arith)) in
+    rw z (ap (_∷_ 0) (zeros-are n s more (omega arith) (λ k l. h (suc k) (omega arith))))
+
+-- a number's n bytes have no limit
+number-small : (n : ℕ) (s more : List ℕ) → ((k : ℕ) → k < n → byteAt s k ≤ byteAt (replicate n 255 ++ more) k) → (k : ℕ) → k < n → byteAt s k ≤ 255
+number-small n s more h k l = omega (arith, h k l, same-limit n 255 k more l)
+
+limit-past : (n k : ℕ) (more : List ℕ) → byteAt (replicate n 255 ++ more) (n + k) ≡ byteAt more k
+limit-past n k more = rw (← getD-drop n (replicate n 255 ++ more) k 0, drop-at (replicate n 255) more n (length-replicate n 255))
+
+-- a number's n bytes, and z zeros after them
+number-are : (n z : ℕ) (s more : List ℕ) → length s ≡ n + z → ((k : ℕ) → k < n + z → byteAt s k ≤ byteAt (replicate n 255 ++ (replicate z 0 ++ more)) k)
+    → lowBytes n (unsignedAt n s 0) ++ replicate z 0 ≡ s
+number-are n z s more e h =
+    ap₂ _++_
+    (value-low n s (omega arith) (number-small n s (replicate z 0 ++ more) (λ k l. h k (omega arith))))
+    (sym (zeros-are z (drop n s) more (length-drop n s ∙ omega arith) past))
+    ∙ take-append-drop n s
+  where
+    past : (k : ℕ) → k < z → byteAt (drop n s) k ≤ byteAt (replicate z 0 ++ more) k
+    past k l = rw (getD-drop n s k 0, ← limit-past n k (replicate z 0 ++ more)) (h (n + k) (omega arith))
+
+-- a number's bytes are within its limits
+low-limits : (n z x k : ℕ) → byteAt (lowBytes n x ++ replicate z 0) k ≤ byteAt (replicate n 255 ++ replicate z 0) k
+low-limits zero z x k = le-refl _
+low-limits (suc n) z x zero = omega arith
+low-limits (suc n) z x (suc k) = low-limits n z (x / 256) k
+
+zeros-small : (z : ℕ) → all byte (replicate z 0) ≡ true
+zeros-small zero = refl
+zeros-small (suc z) = zeros-small z
+
+low-small : (n z x : ℕ) → all byte (lowBytes n x ++ replicate z 0) ≡ true
+low-small zero z x = zeros-small z
+low-small (suc n) z x = rw (is-small (x % 256) (omega arith), low-small n z (x / 256))
+
+-- ---- a test's 16 bytes: the first four, and the rest as a list
 
 -- the test that they are
-abbrev pub testOn : ℕ → ℕ → ℕ → ℕ → ℕ → ℕ → ℕ → ℕ → Test
-testOn f c m l x y z w =
-    test (eqb m 1) (formOf (if eqb f 0 then Always else if eqb f 1 then Columns c l x else Number c l (wordOf (x + 256 * y + 65536 * z + 16777216 * w))))
+abbrev pub testOn : ℕ → ℕ → ℕ → ℕ → List ℕ → Test
+testOn f c m l s =
+    test (eqb m 1) (formOf (if eqb f 0 then Always else if eqb f 1 then Columns c l (byteAt s 0) else Number c l (wordOf (unsignedAt cellSize s 0))))
 
-abbrev pub testLimited : ℕ → ℕ → ℕ → ℕ → ℕ → ℕ → ℕ → ℕ → Bool
-testLimited f c m l x y z w =
-    limited 8 (f ∷ c ∷ m ∷ l ∷ x ∷ y ∷ z ∷ w ∷ []) (drop (testRow 1 f) testLimits)
-    && (not (eqb f 2) || inRange (wordOf (x + 256 * y + 65536 * z + 16777216 * w)))
+abbrev pub testLimited : ℕ → ℕ → ℕ → ℕ → List ℕ → Bool
+testLimited f c m l s =
+    limited 16 (f ∷ c ∷ m ∷ l ∷ s) (drop (testRow 1 f) testLimits)
+    && (not (eqb f 2) || inRange (wordOf (unsignedAt cellSize s 0)))
 
-pub record TestBytes (f c m l x y z w : ℕ) : Type 0 where
-  pub bytes : testBytes (testOn f c m l x y z w) ≡ f ∷ c ∷ m ∷ l ∷ x ∷ y ∷ z ∷ w ∷ []
-  pub allowed : testFields (testOn f c m l x y z w) ≡ true
+pub record TestBytes (f c m l : ℕ) (s : List ℕ) : Type 0 where
+  pub bytes : testBytes (testOn f c m l s) ≡ f ∷ c ∷ m ∷ l ∷ s
+  pub allowed : testFields (testOn f c m l s) ≡ true
 
-module _ (c m l x y z w : ℕ) where
-  always-bytes : limited 8 (0 ∷ c ∷ m ∷ l ∷ x ∷ y ∷ z ∷ w ∷ []) (drop 8 testLimits) ≡ true → TestBytes 0 c m l x y z w
+module _ (c m l : ℕ) (s : List ℕ) (long : length s ≡ 12) where
+  always-bytes : limited 16 (0 ∷ c ∷ m ∷ l ∷ s) (drop 16 testLimits) ≡ true → TestBytes 0 c m l s
   always-bytes h =
-      let at = all-at 8 _ h in
+      let at = all-at 16 _ h in
+      let rest = zeros-are 12 s (drop 32 testLimits) long (λ k p. limited-at 16 (0 ∷ c ∷ m ∷ l ∷ s) (drop 16 testLimits) h (suc (suc (suc (suc k)))) (omega arith)) in
       record {
-        bytes = rw (mark-byte m (at 2 (omega arith)), is-zero c (at 1 (omega arith)), is-zero l (at 3 (omega arith)), is-zero x (at 4 (omega arith)), is-zero y (at 5 (omega arith)), is-zero z (at 6 (omega arith)), is-zero w (at 7 (omega arith)));
+        bytes = rw (mark-byte m (at 2 (omega arith)), is-zero c (at 1 (omega arith)), is-zero l (at 3 (omega arith)), rest);
         allowed = refl;
       }
 
-  columns-bytes : limited 8 (1 ∷ c ∷ m ∷ l ∷ x ∷ y ∷ z ∷ w ∷ []) (drop 16 testLimits) ≡ true → TestBytes 1 c m l x y z w
-  columns-bytes h =
-      let at = all-at 8 _ h in
-      record {
-        bytes = rw (comparison-byte c (at 1 (omega arith)), mark-byte m (at 2 (omega arith)), is-zero y (at 5 (omega arith)), is-zero z (at 6 (omega arith)), is-zero w (at 7 (omega arith)));
-        allowed = rw (is-byte l (at 3 (omega arith)), is-byte x (at 4 (omega arith)));
-      }
-
-  number-test-bytes : limited 8 (2 ∷ c ∷ m ∷ l ∷ x ∷ y ∷ z ∷ w ∷ []) (drop 24 testLimits) ≡ true
-      → inRange (wordOf (x + 256 * y + 65536 * z + 16777216 * w)) ≡ true → TestBytes 2 c m l x y z w
+  number-test-bytes : limited 16 (2 ∷ c ∷ m ∷ l ∷ s) (drop 48 testLimits) ≡ true → inRange (wordOf (unsignedAt cellSize s 0)) ≡ true → TestBytes 2 c m l s
   number-test-bytes h r =
-      let at = all-at 8 _ h in
-      let n = number-bytes x y z w (leb-true x 255 (at 4 (omega arith))) (leb-true y 255 (at 5 (omega arith))) (leb-true z 255 (at 6 (omega arith))) (leb-true w 255 (at 7 (omega arith))) in
+      let at = all-at 16 _ h in
+      let limits : (k : ℕ) → k < 12 → byteAt s k ≤ byteAt (replicate 8 255 ++ (replicate 4 0 ++ [])) k =
+      λ k p. limited-at 16 (2 ∷ c ∷ m ∷ l ∷ s) (drop 48 testLimits) h (suc (suc (suc (suc k)))) (omega arith) in
+      let small = number-small 8 s (replicate 4 0) (λ k p. limits k (omega arith)) in
+      let e = word-back (unsignedAt 8 s 0) (unsigned-bound 8 s 0 (λ k p q. small k (omega arith))) in
       record {
-        bytes = rw (comparison-byte c (at 1 (omega arith)), mark-byte m (at 2 (omega arith))) (ap (λ (s : List ℕ). 2 ∷ c ∷ m ∷ l ∷ s) n);
+        bytes =
+            rw (comparison-byte c (at 1 (omega arith)), mark-byte m (at 2 (omega arith)))
+            (ap (λ (y : ℕ). 2 ∷ c ∷ m ∷ l ∷ (lowBytes 8 y ++ replicate 4 0)) e ∙ ap (λ (s : List ℕ). 2 ∷ c ∷ m ∷ l ∷ s) (number-are 8 4 s [] long limits));
         allowed = rw (is-byte l (at 3 (omega arith)), r);
       }
 
-  form-past : (f : ℕ) → 2 < f → limited 8 (f ∷ c ∷ m ∷ l ∷ x ∷ y ∷ z ∷ w ∷ []) (drop (8 * (1 + f)) testLimits) ≡ true → ⊥
+  form-past : (f : ℕ) → 2 < f → limited 16 (f ∷ c ∷ m ∷ l ∷ s) (drop (16 * (1 + f)) testLimits) ≡ true → ⊥
   form-past f h e =
-      let past : 32 ≤ 8 * (1 + f) = omega arith in
-      let q : drop (8 * (1 + f)) testLimits ≡ [] = drop-of-length-le testLimits past in
-      let at : leb f (byteAt (drop (8 * (1 + f)) testLimits) 0) ≡ true = all-at 8 _ e 0 (omega arith) in
+      let past : 64 ≤ 16 * (1 + f) = omega arith in
+      let q : drop (16 * (1 + f)) testLimits ≡ [] = drop-of-length-le testLimits past in
+      let at : leb f (byteAt (drop (16 * (1 + f)) testLimits) 0) ≡ true = all-at 16 _ e 0 (omega arith) in
       let zero-limit : leb f 0 ≡ true = rw q at at in
       omega (arith, leb-true f 0 zero-limit)
 
-pub test-bytes : (f c m l x y z w : ℕ) → testLimited f c m l x y z w ≡ true → TestBytes f c m l x y z w
-test-bytes zero c m l x y z w h = always-bytes c m l x y z w (and-left _ _ h)
-test-bytes (suc zero) c m l x y z w h = columns-bytes c m l x y z w (and-left _ _ h)
-test-bytes (suc (suc zero)) c m l x y z w h = number-test-bytes c m l x y z w (and-left _ _ h) (and-right (limited 8 (2 ∷ c ∷ m ∷ l ∷ x ∷ y ∷ z ∷ w ∷ []) (drop 24 testLimits)) _ h)
-test-bytes (suc (suc (suc f))) c m l x y z w h = absurd (form-past c m l x y z w (suc (suc (suc f))) (omega arith) (and-left _ _ h))
+columns-bytes : (c m l : ℕ) (s : List ℕ) → length s ≡ 12 → limited 16 (1 ∷ c ∷ m ∷ l ∷ s) (drop 32 testLimits) ≡ true → TestBytes 1 c m l s
+columns-bytes c m l [] long h = absurd (omega arith)
+columns-bytes c m l (x ∷ s) long h =
+    let at = all-at 16 _ h in
+    let rest = zeros-are 11 s (drop 48 testLimits) (omega arith) (λ k p. limited-at 16 (1 ∷ c ∷ m ∷ l ∷ x ∷ s) (drop 32 testLimits) h (suc (suc (suc (suc (suc k))))) (omega arith)) in
+    record {
+      bytes = rw (comparison-byte c (at 1 (omega arith)), mark-byte m (at 2 (omega arith)), rest);
+      allowed = rw (is-byte l (at 3 (omega arith)), is-byte x (at 4 (omega arith)));
+    }
+
+pub test-bytes : (f c m l : ℕ) (s : List ℕ) → length s ≡ 12 → testLimited f c m l s ≡ true → TestBytes f c m l s
+test-bytes zero c m l s long h = always-bytes c m l s long (and-left _ _ h)
+test-bytes (suc zero) c m l s long h = columns-bytes c m l s long (and-left _ _ h)
+test-bytes (suc (suc zero)) c m l s long h = number-test-bytes c m l s long (and-left _ _ h) (and-right (limited 16 (2 ∷ c ∷ m ∷ l ∷ s) (drop 48 testLimits)) _ h)
+test-bytes (suc (suc (suc f))) c m l s long h = absurd (form-past c m l s long (suc (suc (suc f))) (omega arith) (and-left _ _ h))
 
 -- a kind with no test has zeros there
-pub no-test : (f c m l x y z w : ℕ) → limited 8 (f ∷ c ∷ m ∷ l ∷ x ∷ y ∷ z ∷ w ∷ []) testLimits ≡ true → f ∷ c ∷ m ∷ l ∷ x ∷ y ∷ z ∷ w ∷ [] ≡ noTest
-no-test f c m l x y z w h =
-    let at = all-at 8 _ h in
-    rw (is-zero f (at 0 (omega arith)), is-zero c (at 1 (omega arith)), is-zero m (at 2 (omega arith)), is-zero l (at 3 (omega arith)), is-zero x (at 4 (omega arith)), is-zero y (at 5 (omega arith)), is-zero z (at 6 (omega arith)), is-zero w (at 7 (omega arith)))
+pub no-test : (f c m l : ℕ) (s : List ℕ) → length s ≡ 12 → limited 16 (f ∷ c ∷ m ∷ l ∷ s) testLimits ≡ true → f ∷ c ∷ m ∷ l ∷ s ≡ noTest
+no-test f c m l s long h = zeros-are 16 (f ∷ c ∷ m ∷ l ∷ s) (drop 16 testLimits) (omega arith) (limited-at 16 (f ∷ c ∷ m ∷ l ∷ s) testLimits h)
 
 -- the way back
 pub record TestBack (t : Test) : Type 0 where
@@ -233,59 +288,59 @@ pub record TestBack (t : Test) : Type 0 where
   pub c : ℕ
   pub m : ℕ
   pub l : ℕ
-  pub x : ℕ
-  pub y : ℕ
-  pub z : ℕ
-  pub w : ℕ
-  pub bytes : testBytes t ≡ f ∷ c ∷ m ∷ l ∷ x ∷ y ∷ z ∷ w ∷ []
-  pub kept : testOn f c m l x y z w ≡ t
-  pub limits : testLimited f c m l x y z w ≡ true
-  pub small : all byte (f ∷ c ∷ m ∷ l ∷ x ∷ y ∷ z ∷ w ∷ []) ≡ true
+  pub rest : List ℕ
+  pub long : length rest ≡ 12
+  pub bytes : testBytes t ≡ f ∷ c ∷ m ∷ l ∷ rest
+  pub kept : testOn f c m l rest ≡ t
+  pub limits : testLimited f c m l rest ≡ true
+  pub small : all byte (f ∷ c ∷ m ∷ l ∷ rest) ≡ true
 
-number-limits : (w : ℕ) → inRange w ≡ true
-    → (wordOf (u32At (numberBytes w) 0) ≡ w) × (wordOf w / 16777216 ≤ 255) × (wordOf w % 256 ≤ 255) × ((wordOf w / 256) % 256 ≤ 255) × ((wordOf w / 65536) % 256 ≤ 255)
-number-limits w h =
-    let l : w ≤ 4147483648 = leb-true w 4147483648 (and-right (leb (origin - reach) w) _ h) in
-    let e = number-back w h in
-    (ap wordOf e ∙ word-back w (omega arith), omega arith, omega arith, omega arith, omega arith)
+number-kept : (k : Bool) (o : Comparison) (a v : ℕ) (s : List ℕ) → wordOf (unsignedAt cellSize s 0) ≡ v
+    → testOn 2 (comparisonByte o) (markByte k) a s ≡ test k (numberOf o a v)
+number-kept k o a v s e = rw (mark-back k, comparison-back o, e)
+
+number-limited : (o : Comparison) (k : Bool) (a : ℕ) (s : List ℕ) → byte a ≡ true → ((j : ℕ) → byteAt s j ≤ byteAt (drop 52 testLimits) j)
+    → inRange (wordOf (unsignedAt cellSize s 0)) ≡ true → testLimited 2 (comparisonByte o) (markByte k) a s ≡ true
+number-limited o k a s h g r = rw (four-limited 12 2 (comparisonByte o) (markByte k) a 2 5 1 255 s (drop 52 testLimits) refl (comparison-limit o) (mark-limit k) (byte-is a h) g) r
 
 pub test-back : (t : Test) → testFields t ≡ true → TestBack t
 unfolding allBelow
 test-back (test k always) h =
-    record { f = 0; c = 0; m = markByte k; l = 0; x = 0; y = 0; z = 0; w = 0; bytes = refl; kept = rw (mark-back k); limits = rw (mark-limit k); small = rw (mark-small k) }
+    record { f = 0; c = 0; m = markByte k; l = 0; rest = replicate 12 0; long = refl; bytes = refl; kept = rw (mark-back k); limits = rw (mark-limit k); small = rw (mark-small k) }
 test-back (test k (columnsOf o a b)) h =
     record {
       f = 1;
       c = comparisonByte o;
       m = markByte k;
       l = a;
-      x = b;
-      y = 0;
-      z = 0;
-      w = 0;
+      rest = b ∷ replicate 11 0;
+      long = refl;
       bytes = refl;
       kept = rw (mark-back k, comparison-back o);
       limits = rw (mark-limit k, comparison-limit o, byte-is a (and-left (byte a) (byte b) h), byte-is b (and-right (byte a) (byte b) h));
       small = rw (comparison-small o, mark-small k, and-left (byte a) (byte b) h, and-right (byte a) (byte b) h);
     }
 test-back (test k (numberOf o a v)) h =
-    let n = number-limits v (and-right (byte a) (inRange v) h) in
+    let ha = and-left (byte a) (inRange v) h in
+    let hv = and-right (byte a) (inRange v) h in
+    let e = number-back v hv in
     record {
       f = 2;
       c = comparisonByte o;
       m = markByte k;
       l = a;
-      x = wordOf v % 256;
-      y = (wordOf v / 256) % 256;
-      z = (wordOf v / 65536) % 256;
-      w = wordOf v / 16777216;
+      rest = numberBytes v ++ replicate 4 0;
+      long = refl;
       bytes = refl;
-      kept = rw (mark-back k, comparison-back o, n .0);
-      limits =
-          rw (mark-limit k, comparison-limit o, byte-is a (and-left (byte a) (inRange v) h), le-leb _ _ (n .1), le-leb _ _ (n .2), le-leb _ _ (n .3), le-leb _ _ (n .4), n .0)
-          (and-right (byte a) (inRange v) h);
-      small = rw (comparison-small o, mark-small k, and-left (byte a) (inRange v) h, is-small _ (n .1), is-small _ (n .2), is-small _ (n .3), is-small _ (n .4));
+      kept = number-kept k o a v (numberBytes v ++ replicate 4 0) e;
+      limits = number-limited o k a (numberBytes v ++ replicate 4 0) ha (low-limits 8 4 (wordOf v)) (ap inRange e ∙ hv);
+      small = rw (comparison-small o, mark-small k, ha) (low-small 8 4 (wordOf v));
     }
+  where
+    number-back : (v : ℕ) → inRange v ≡ true → wordOf (unsignedAt cellSize (numberBytes v ++ replicate 4 0) 0) ≡ v
+    number-back v r =
+        let l : v ≤ origin + reach = leb-true v (origin + reach) (and-right (leb (origin - reach) v) _ r) in
+        ap wordOf (low-value cellSize (wordOf v) (replicate 4 0) (omega arith)) ∙ word-back v (omega arith)
 
 -- ---- a list's 8 bytes
 

@@ -15,7 +15,7 @@ use Rattle.algebra.specs.Lists.{if_then_else_}
 use Rattle.reading.specs.Bytes.{allBelow}
 use borrow.Author.Tests.{lt-ltb, le-ltb, ltb-false, not-false}
 use Rattle.reading.specs.Bytes.{startsWith}
-use Rattle.reading.specs.TableSet.{tableMark, sizeAllowed, cellBytes, cellsOf, cellAt, cellAllowed, cellsAllowed, readTable, readFrom, readSet, afterTable, tableFrom}
+use Rattle.reading.specs.TableSet.{tableMark, sizeAllowed, cellSize, cellBytes, cellsOf, cellAt, cellAllowed, cellsAllowed, readTable, readFrom, readSet, afterTable, tableFrom}
 use Rattle.reading.specs.declared.set.SetRead.the-variants.{Holds, Refused}
 use Rattle.reading.specs.declared.set.TableRead.{TableRead}
 use Rattle.reading.specs.declared.set.TableRead.the-variants.{Whole, Bad}
@@ -223,8 +223,8 @@ all-at (suc n) p e k h = last (decLt k n) (allBelow n p) (p n) refl refl e (λ b
 -- each word of a table that was read is blank, off scale or a number, also past the last cell
 pub accepted-cell : (s : List ℕ) (m t i : ℕ) → readSet s ≡ Holds m → t < m → cellAllowed (cellAt (cellsOf (tableFrom t s)) i) ≡ true
 unfolding cellsAllowed
-accepted-cell s m t i e h = at (decLt i (length (cellsOf (tableFrom t s)) / 4))
+accepted-cell s m t i e h = at (decLt i (length (cellsOf (tableFrom t s)) / cellSize))
   where
-    at : Dec (i < length (cellsOf (tableFrom t s)) / 4) → cellAllowed (cellAt (cellsOf (tableFrom t s)) i) ≡ true
+    at : Dec (i < length (cellsOf (tableFrom t s)) / cellSize) → cellAllowed (cellAt (cellsOf (tableFrom t s)) i) ≡ true
     at (yes l) = all-at _ _ (accepted-table s m t e h .codes) i l
-    at (no l) = let k : length (cellsOf (tableFrom t s)) / 4 ≤ i = omega arith in rw (le-ltb _ _ k)
+    at (no l) = let k : length (cellsOf (tableFrom t s)) / cellSize ≤ i = omega arith in rw (le-ltb _ _ k)

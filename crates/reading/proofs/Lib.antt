@@ -1,6 +1,7 @@
 pub mod Laws
 pub mod Operators
 pub mod Trees
+pub mod NumberBytes
 pub mod FieldBytes
 pub mod Encoding
 pub mod Decoding

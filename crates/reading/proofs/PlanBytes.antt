@@ -19,7 +19,7 @@ use Rattle.algebra.proofs.Places.{flatten-length, size-positive}
 use Rattle.algebra.proofs.Refusals.{passes-size, passes-fields, passes-refusal}
 use Rattle.reading.specs.Bytes.{startsWith}
 use Rattle.reading.specs.TableSet.{tablesOf}
-use Rattle.reading.specs.Plan.{fieldsAllowed, nodePart, nodeOf, nodeAt, planMark, nodesOf, nodesAllowed, readPlan}
+use Rattle.reading.specs.Plan.{nodeSize, fieldsAllowed, nodePart, nodeOf, nodeAt, planMark, nodesOf, nodesAllowed, readPlan}
 use Rattle.reading.specs.Tree.{operatorOf, operatorAt, planOf, wholeTree}
 use Rattle.reading.specs.Encoding.{nodeBytes, planBytes}
 use Rattle.reading.specs.Check.{planNumber, orNext, treeNumber, planRefusal}
@@ -36,7 +36,7 @@ pub record PlanKnown (plan : List ℕ) : Type 0 where
   pub marked : startsWith planMark plan ≡ true
   pub some : 1 ≤ nodesOf plan
   pub most : nodesOf plan ≤ 64
-  pub long : length plan ≡ 6 + 24 * nodesOf plan
+  pub long : length plan ≡ 6 + nodeSize * nodesOf plan
   pub nodes : nodesAllowed (nodesOf plan) plan ≡ true
 
 numbers : (b₁ b₂ b₃ b₄ b₅ : Bool) (m : ℕ)
@@ -53,7 +53,7 @@ pub plan-known : (plan : List ℕ) → planNumber (readPlan plan) ≡ 0 → Plan
 unfolding readPlan
 plan-known plan e =
     let n = nodesOf plan in
-    let f = numbers (ltb (length plan) 6) (not (startsWith planMark plan)) (not (leb 1 n && leb n 64)) (not (eqb (length plan) (6 + 24 * n))) (not (nodesAllowed n plan)) n e in
+    let f = numbers (ltb (length plan) 6) (not (startsWith planMark plan)) (not (leb 1 n && leb n 64)) (not (eqb (length plan) (6 + nodeSize * n))) (not (nodesAllowed n plan)) n e in
     let h = not-false (leb 1 n && leb n 64) (f .1) in
     record {
       marked = not-false _ (f .0);
@@ -63,22 +63,22 @@ plan-known plan e =
       nodes = not-false _ (f .3);
     }
 
--- ---- a plan in parts of 24 bytes
+-- ---- a plan in its nodes' parts
 
 pub take-drop : (n : ℕ) (s : List ℕ) → s ≡ take n s ++ drop n s
 take-drop zero s = refl
 take-drop (suc n) [] = refl
 take-drop (suc n) (x ∷ s) = ap (_∷_ x) (take-drop n s)
 
-parts : (plan : List ℕ) (n k : ℕ) → length plan ≡ 6 + 24 * (k + n) → drop (6 + 24 * k) plan ≡ flatMap (nodePart plan) (upward n k)
+parts : (plan : List ℕ) (n k : ℕ) → length plan ≡ 6 + nodeSize * (k + n) → drop (6 + nodeSize * k) plan ≡ flatMap (nodePart plan) (upward n k)
 parts plan zero k e = drop-of-length-le plan short
   where
-    short : length plan ≤ 6 + 24 * k
+    short : length plan ≤ 6 + nodeSize * k
     short = omega arith
 parts plan (suc n) k e =
-    let q : 6 + 24 * k + 24 ≡ 6 + 24 * suc k = omega arith in
-    take-drop 24 (drop (6 + 24 * k) plan)
-    ∙ ap (λ (s : List ℕ). nodePart plan k ++ s) (drop-drop 24 (6 + 24 * k) plan ∙ (ap (λ (j : ℕ). drop j plan) q ∙ parts plan n (suc k) (omega arith)))
+    let q : 6 + nodeSize * k + nodeSize ≡ 6 + nodeSize * suc k = omega arith in
+    take-drop nodeSize (drop (6 + nodeSize * k) plan)
+    ∙ ap (λ (s : List ℕ). nodePart plan k ++ s) (drop-drop nodeSize (6 + nodeSize * k) plan ∙ (ap (λ (j : ℕ). drop j plan) q ∙ parts plan n (suc k) (omega arith)))
 
 starts-take : (mark s : List ℕ) → startsWith mark s ≡ true → s ≡ mark ++ drop (length mark) s
 unfolding startsWith
@@ -95,9 +95,9 @@ flatMap-upward f g (suc n) k h = ap₂ _++_ (h k (omega arith) (omega arith)) (f
 -- ---- a plan that is read
 
 module _ (plan : List ℕ) (known : PlanKnown plan) where
-  -- node i's 24 bytes
-  part-long : (i : ℕ) → i < nodesOf plan → length (nodePart plan i) ≡ 24
-  part-long i h = length-take-le 24 (drop (6 + 24 * i) plan) (omega (arith, length-drop (6 + 24 * i) plan, known .long))
+  -- node i's bytes
+  part-long : (i : ℕ) → i < nodesOf plan → length (nodePart plan i) ≡ nodeSize
+  part-long i h = length-take-le nodeSize (drop (6 + nodeSize * i) plan) (omega (arith, length-drop (6 + nodeSize * i) plan, known .long))
 
   part-allowed : (i : ℕ) → i < nodesOf plan → fieldsAllowed (nodePart plan i) ≡ true
   unfolding nodesAllowed
@@ -105,7 +105,7 @@ module _ (plan : List ℕ) (known : PlanKnown plan) where
 
   operator-at : (i : ℕ) → i < nodesOf plan → operatorAt plan i ≡ operatorOf (nodeOf (nodePart plan i))
   unfolding nodeAt
-  operator-at i h = let l : 30 + 24 * i ≤ length plan = omega (arith, known .long) in rw (le-leb (30 + 24 * i) (length plan) l)
+  operator-at i h = let l : 6 + nodeSize * i + nodeSize ≤ length plan = omega (arith, known .long) in rw (le-leb (6 + nodeSize * i + nodeSize) (length plan) l)
 
   pub node-at-bytes : (i : ℕ) → i < nodesOf plan → nodeBytes (operatorAt plan i) ≡ nodePart plan i
   node-at-bytes i h = ap nodeBytes (operator-at i h) ∙ node-bytes (nodePart plan i) (part-long i h) (part-allowed i h)
@@ -131,13 +131,13 @@ module _ (plan : List ℕ) (known : PlanKnown plan) where
       ∙ (all-upward (λ i. fields (operatorAt plan i)) (nodesOf plan) ∙ all-holds (nodesOf plan) (λ i. fields (operatorAt plan i)) one))
     where
       part-bytes : (i : ℕ) → Bytes (nodePart plan i)
-      part-bytes i k = elim (decLt k 24) [
-        | yes l ↦ rw (getD-take 24 (drop (6 + 24 * i) plan) k 0 l, getD-drop (6 + 24 * i) plan k 0) (bytes (6 + 24 * i + k))
+      part-bytes i k = elim (decLt k nodeSize) [
+        | yes l ↦ rw (getD-take nodeSize (drop (6 + nodeSize * i) plan) k 0 l, getD-drop (6 + nodeSize * i) plan k 0) (bytes (6 + nodeSize * i + k))
         | no l ↦ rw (List·getD-eq-default (nodePart plan i) 0 (past l)) (omega arith)
       ]
         where
-          past : (k < 24 → ⊥) → length (nodePart plan i) ≤ k
-          past l = omega (arith, length-take 24 (drop (6 + 24 * i) plan))
+          past : (k < nodeSize → ⊥) → length (nodePart plan i) ≤ k
+          past l = omega (arith, length-take nodeSize (drop (6 + nodeSize * i) plan))
 
       one : (i : ℕ) → i < nodesOf plan → fields (operatorAt plan i) ≡ true
       one i h = ap fields (operator-at i h) ∙ fields-of (nodePart plan i) (part-long i h) (part-allowed i h) (part-bytes i)
@@ -152,7 +152,7 @@ plan-fields plan n e whole bytes = known-fields plan (plan-known plan (ap planNu
 
 -- ---- the way back
 
-nodes-long : (ops : List Operator) → all fields ops ≡ true → length (flatMap nodeBytes ops) ≡ 24 * length ops
+nodes-long : (ops : List Operator) → all fields ops ≡ true → length (flatMap nodeBytes ops) ≡ nodeSize * length ops
 nodes-long [] h = refl
 nodes-long (op ∷ ops) h =
     let d = decoded op (and-left (fields op) (all fields ops) h) in
@@ -160,25 +160,25 @@ nodes-long (op ∷ ops) h =
     length-append (nodeBytes op) (flatMap nodeBytes ops) ∙ omega (arith, d .long)
 
 -- a node whose bytes are an operator's is that operator
-operator-read : (plan : List ℕ) (k : ℕ) (op : Operator) → 30 + 24 * k ≤ length plan → nodePart plan k ≡ nodeBytes op → Decoded op → operatorAt plan k ≡ op
+operator-read : (plan : List ℕ) (k : ℕ) (op : Operator) → 6 + nodeSize * k + nodeSize ≤ length plan → nodePart plan k ≡ nodeBytes op → Decoded op → operatorAt plan k ≡ op
 unfolding nodeAt
-operator-read plan k op long part d = rw (le-leb (30 + 24 * k) (length plan) long) (ap (λ (s : List ℕ). operatorOf (nodeOf s)) part ∙ d .kept)
+operator-read plan k op long part d = rw (le-leb (6 + nodeSize * k + nodeSize) (length plan) long) (ap (λ (s : List ℕ). operatorOf (nodeOf s)) part ∙ d .kept)
 
 -- from place k on a plan has the bytes of these operators: they are its nodes' there, and allowed
 record NodesBack (plan : List ℕ) (ops : List Operator) (k : ℕ) : Type 0 where
   operators : map (operatorAt plan) (upward (length ops) k) ≡ ops
   allowed : all (λ i. fieldsAllowed (nodePart plan i)) (upward (length ops) k) ≡ true
 
-nodes-back : (plan : List ℕ) (ops : List Operator) (k : ℕ) → all fields ops ≡ true → drop (6 + 24 * k) plan ≡ flatMap nodeBytes ops → NodesBack plan ops k
+nodes-back : (plan : List ℕ) (ops : List Operator) (k : ℕ) → all fields ops ≡ true → drop (6 + nodeSize * k) plan ≡ flatMap nodeBytes ops → NodesBack plan ops k
 nodes-back plan [] k h e = record { operators = refl; allowed = refl }
 nodes-back plan (op ∷ ops) k h e =
     let d = decoded op (and-left (fields op) (all fields ops) h) in
-    let part : nodePart plan k ≡ nodeBytes op = ap (take 24) e ∙ take-at (nodeBytes op) (flatMap nodeBytes ops) 24 (d .long) in
-    let q : 6 + 24 * k + 24 ≡ 6 + 24 * suc k = omega arith in
-    let next : drop (6 + 24 * suc k) plan ≡ flatMap nodeBytes ops =
-    ap (λ (j : ℕ). drop j plan) (sym q) ∙ (sym (drop-drop 24 (6 + 24 * k) plan) ∙ (ap (drop 24) e ∙ drop-at (nodeBytes op) (flatMap nodeBytes ops) 24 (d .long))) in
+    let part : nodePart plan k ≡ nodeBytes op = ap (take nodeSize) e ∙ take-at (nodeBytes op) (flatMap nodeBytes ops) nodeSize (d .long) in
+    let q : 6 + nodeSize * k + nodeSize ≡ 6 + nodeSize * suc k = omega arith in
+    let next : drop (6 + nodeSize * suc k) plan ≡ flatMap nodeBytes ops =
+    ap (λ (j : ℕ). drop j plan) (sym q) ∙ (sym (drop-drop nodeSize (6 + nodeSize * k) plan) ∙ (ap (drop nodeSize) e ∙ drop-at (nodeBytes op) (flatMap nodeBytes ops) nodeSize (d .long))) in
     let r = nodes-back plan ops (suc k) (and-right (fields op) (all fields ops) h) next in
-    let long : 30 + 24 * k ≤ length plan = omega (arith, length-drop (6 + 24 * k) plan, ap length e, length-append (nodeBytes op) (flatMap nodeBytes ops), d .long) in
+    let long : 6 + nodeSize * k + nodeSize ≤ length plan = omega (arith, length-drop (6 + nodeSize * k) plan, ap length e, length-append (nodeBytes op) (flatMap nodeBytes ops), d .long) in
     record {
       operators = ap₂ _∷_ (operator-read plan k op long part d) (r .operators);
       allowed = rw (part, d .allowed) (r .allowed);
@@ -201,7 +201,7 @@ module _ (p : Plan) (small : size p ≤ 64) (written : all fields (flatten p) �
   unfolding planBytes
   back-nodes = refl
 
-  back-long : length (planBytes p) ≡ 6 + 24 * size p
+  back-long : length (planBytes p) ≡ 6 + nodeSize * size p
   unfolding planBytes
   back-long = omega (arith, nodes-long (flatten p) written, flatten-length p)
 

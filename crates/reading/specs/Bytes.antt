@@ -13,9 +13,10 @@ byteAt s i = getD s i 0
 abbrev pub u16At : List ℕ → ℕ → ℕ
 u16At s i = byteAt s i + 256 * byteAt s (i + 1)
 
--- the 32-bit number at a place, without its sign
-abbrev pub u32At : List ℕ → ℕ → ℕ
-u32At s i = byteAt s i + 256 * byteAt s (i + 1) + 65536 * byteAt s (i + 2) + 16777216 * byteAt s (i + 3)
+-- the number of n bytes at a place, without its sign
+abbrev pub unsignedAt : ℕ → List ℕ → ℕ → ℕ
+unsignedAt zero s i = 0
+unsignedAt (suc n) s i = byteAt s i + 256 * unsignedAt n s (i + 1)
 
 -- s starts with the bytes of a mark
 unfoldable pub startsWith : List ℕ → List ℕ → Bool

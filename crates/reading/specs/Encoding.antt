@@ -1,5 +1,5 @@
 -- The bytes of a plan's tree (docs/DEFINITION.md, "The plan's bytes"). Definitions only.
-use Prim.Native.Nat.{ℕ, _+_, _/_, _%_}
+use Prim.Native.Nat.{ℕ, zero, suc, _+_, _/_, _%_}
 use mathlib.Core.Bool.{Bool, true, false}
 use mathlib.Core.List.{List, [], _∷_, _++_}
 use lib.ListN.{length, take, replicate}
@@ -7,7 +7,7 @@ use Rattle.algebra.specs.Lists.{flatMap}
 use Rattle.algebra.specs.Cells.{Comparison, eq, ne, lt, le, gt, ge, sum, least, greatest, Aggregate, count, over}
 use Rattle.algebra.specs.Plans.{always, columnsOf, numberOf, Test, test, Leaf, unit, scan, Unary, select, project, distinct, group, sort, Binary, cross, semi, quant, fold, each, pair, Plan}
 use Rattle.algebra.specs.Places.{Operator, leafNode, unaryNode, binaryNode, size, flatten}
-use Rattle.reading.specs.TableSet.{wordOf}
+use Rattle.reading.specs.TableSet.{cellSize, wordOf}
 use Rattle.reading.specs.Plan.{planMark}
 
 abbrev pub comparisonByte : Comparison → ℕ
@@ -33,18 +33,23 @@ abbrev pub columnByte : Aggregate → ℕ
 columnByte count = 0
 columnByte (over k c) = c
 
--- the four bytes of a number that is held as a cell: its code, low byte first. A code is its cell plus 2 ^ 31, without the carry.
-abbrev pub numberBytes : ℕ → List ℕ
-numberBytes w = wordOf w % 256 ∷ (wordOf w / 256) % 256 ∷ (wordOf w / 65536) % 256 ∷ wordOf w / 16777216 ∷ []
+-- the n low bytes of a number
+abbrev pub lowBytes : ℕ → ℕ → List ℕ
+lowBytes zero x = []
+lowBytes (suc n) x = x % 256 ∷ lowBytes n (x / 256)
 
--- bytes 16 to 23
+-- the bytes of a number that is held as a cell: its code, low byte first. A code is its cell plus 2 ^ 63, without the carry.
+abbrev pub numberBytes : ℕ → List ℕ
+numberBytes w = lowBytes cellSize (wordOf w)
+
+-- bytes 16 to 31: the form, the comparison, the not-mark and the left column; then the right column or the number, and zeros
 abbrev pub testBytes : Test → List ℕ
-testBytes (test m always) = 0 ∷ 0 ∷ markByte m ∷ 0 ∷ 0 ∷ 0 ∷ 0 ∷ 0 ∷ []
-testBytes (test m (columnsOf c l r)) = 1 ∷ comparisonByte c ∷ markByte m ∷ l ∷ r ∷ 0 ∷ 0 ∷ 0 ∷ []
-testBytes (test m (numberOf c l w)) = 2 ∷ comparisonByte c ∷ markByte m ∷ l ∷ numberBytes w
+testBytes (test m always) = 0 ∷ 0 ∷ markByte m ∷ 0 ∷ replicate 12 0
+testBytes (test m (columnsOf c l r)) = 1 ∷ comparisonByte c ∷ markByte m ∷ l ∷ r ∷ replicate 11 0
+testBytes (test m (numberOf c l w)) = 2 ∷ comparisonByte c ∷ markByte m ∷ l ∷ (numberBytes w ++ replicate 4 0)
 
 abbrev pub noTest : List ℕ
-noTest = replicate 8 0
+noTest = replicate 16 0
 
 -- bytes 8 to 15
 abbrev pub listBytes : List ℕ → List ℕ
@@ -77,12 +82,12 @@ binaryBytes (fold g n t) = fieldBytes 10 (aggregateByte g) n 0 0 0 (columnByte g
 binaryBytes each = plainBytes 11 (listBytes []) noTest
 binaryBytes (pair g n l r c t) = fieldBytes 12 (aggregateByte g) n l r (comparisonByte c) (columnByte g) ++ (listBytes [] ++ testBytes t)
 
--- a node's 24 bytes
+-- a node's 32 bytes
 unfoldable pub nodeBytes : Operator → List ℕ
 nodeBytes (leafNode x) = leafBytes x
 nodeBytes (unaryNode u) = unaryBytes u
 nodeBytes (binaryNode b) = binaryBytes b
 
--- letters RPT, version 1, the node count, the nodes in pre-order
+-- letters RPT, version 2, the node count, the nodes in pre-order
 unfoldable pub planBytes : Plan → List ℕ
 planBytes p = planMark ++ (size p ∷ flatMap nodeBytes (flatten p))

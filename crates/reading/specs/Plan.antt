@@ -1,5 +1,5 @@
 -- The plan's bytes, and the refusals 6 to 9 (docs/DEFINITION.md, "The plan's bytes").
--- A plan is a list of bytes: 6 bytes of header, then 24 bytes for each node. Definitions only.
+-- A plan is a list of bytes: 6 bytes of header, then 32 bytes for each node. Definitions only.
 use Prim.Native.Nat.{ℕ, _+_, _*_}
 use mathlib.Core.Bool.{Bool, _&&_, _||_, not}
 use mathlib.Core.List.{List, [], _∷_}
@@ -7,8 +7,8 @@ use lib.ListN.{length, take, drop}
 use lib.Dec.{leb, ltb, eqb}
 use Rattle.algebra.specs.Lists.{if_then_else_}
 use Rattle.algebra.specs.Cells.{inRange}
-use Rattle.reading.specs.Bytes.{byteAt, u32At, startsWith, allBelow}
-use Rattle.reading.specs.TableSet.{wordOf}
+use Rattle.reading.specs.Bytes.{byteAt, unsignedAt, startsWith, allBelow}
+use Rattle.reading.specs.TableSet.{cellSize, wordOf}
 use Rattle.reading.specs.declared.plan.PlanRead.{PlanRead}
 use Rattle.reading.specs.declared.plan.PlanRead.the-variants.{Nodes, Refused}
 use Rattle.reading.specs.declared.plan.Test.{Test}
@@ -41,15 +41,23 @@ kindTable =
 abbrev pub kindEntry : ℕ → ℕ → ℕ
 kindEntry kind j = byteAt kindTable (10 * kind + j)
 
--- The largest value of each of a test's 8 bytes: for a kind with no test, then for the forms 0, 1 and 2.
+-- The largest value of each of a test's 16 bytes: for a kind with no test, then for the forms 0, 1 and 2.
 abbrev pub testLimits : List ℕ
 testLimits =
-    0 ∷ 0 ∷ 0 ∷ 0 ∷ 0 ∷ 0 ∷ 0 ∷ 0 ∷
-    0 ∷ 0 ∷ 1 ∷ 0 ∷ 0 ∷ 0 ∷ 0 ∷ 0 ∷
-    1 ∷ 5 ∷ 1 ∷ 255 ∷ 255 ∷ 0 ∷ 0 ∷ 0 ∷
-    2 ∷ 5 ∷ 1 ∷ 255 ∷ 255 ∷ 255 ∷ 255 ∷ 255 ∷ []
+    0 ∷ 0 ∷ 0 ∷ 0 ∷ 0 ∷ 0 ∷ 0 ∷ 0 ∷ 0 ∷ 0 ∷ 0 ∷ 0 ∷ 0 ∷ 0 ∷ 0 ∷ 0 ∷
+    0 ∷ 0 ∷ 1 ∷ 0 ∷ 0 ∷ 0 ∷ 0 ∷ 0 ∷ 0 ∷ 0 ∷ 0 ∷ 0 ∷ 0 ∷ 0 ∷ 0 ∷ 0 ∷
+    1 ∷ 5 ∷ 1 ∷ 255 ∷ 255 ∷ 0 ∷ 0 ∷ 0 ∷ 0 ∷ 0 ∷ 0 ∷ 0 ∷ 0 ∷ 0 ∷ 0 ∷ 0 ∷
+    2 ∷ 5 ∷ 1 ∷ 255 ∷ 255 ∷ 255 ∷ 255 ∷ 255 ∷ 255 ∷ 255 ∷ 255 ∷ 255 ∷ 0 ∷ 0 ∷ 0 ∷ 0 ∷ []
 
--- ---- The fields of a node's 24 bytes
+-- ---- The fields of a node's 32 bytes
+
+-- the bytes of a node
+abbrev pub nodeSize : ℕ
+nodeSize = 32
+
+-- the number that a test's form 2 compares with, as a cell's word
+abbrev pub testNumber : List ℕ → ℕ
+testNumber node = wordOf (unsignedAt cellSize node 20)
 
 -- the first n bytes are at most as large as the limits say
 abbrev pub limited : ℕ → List ℕ → List ℕ → Bool
@@ -66,13 +74,13 @@ listAllowed has node =
 
 -- a kind with no test has only zeros there; else the row of the test's form. Past the last row every limit is 0, so no other form passes
 abbrev pub testRow : ℕ → ℕ → ℕ
-testRow has form = if eqb has 0 then 0 else 8 * (1 + form)
+testRow has form = if eqb has 0 then 0 else 16 * (1 + form)
 
 -- a test's bytes are in range, unused ones 0, and its number is in the cell range
 abbrev pub testAllowed : ℕ → List ℕ → Bool
 testAllowed has node =
-    limited 8 (drop 16 node) (drop (testRow has (byteAt node 16)) testLimits)
-    && (not (eqb (byteAt node 16) 2) || inRange (wordOf (u32At node 20)))
+    limited 16 (drop 16 node) (drop (testRow has (byteAt node 16)) testLimits)
+    && (not (eqb (byteAt node 16) 2) || inRange (testNumber node))
 
 -- byte 6, the aggregate column, is 0 for count
 abbrev pub countAllowed : List ℕ → Bool
@@ -89,15 +97,15 @@ fieldsAllowed node =
 
 -- ---- The nodes
 
--- the 24 bytes of node i
+-- the bytes of node i
 abbrev pub nodePart : List ℕ → ℕ → List ℕ
-nodePart plan i = take 24 (drop (6 + 24 * i) plan)
+nodePart plan i = take nodeSize (drop (6 + nodeSize * i) plan)
 
 unfoldable pub testOf : List ℕ → Test
 testOf node =
     if eqb (byteAt node 16) 0 then Always else
     if eqb (byteAt node 16) 1 then Columns (byteAt node 17) (byteAt node 19) (byteAt node 20) else
-    Number (byteAt node 17) (byteAt node 19) (wordOf (u32At node 20))
+    Number (byteAt node 17) (byteAt node 19) (testNumber node)
 
 unfoldable pub nodeOf : List ℕ → Node
 nodeOf node =
@@ -117,13 +125,13 @@ nodeOf node =
 
 -- node i; past the last node it is a Unit
 unfoldable pub nodeAt : List ℕ → ℕ → Node
-nodeAt plan i = if leb (30 + 24 * i) (length plan) then nodeOf (nodePart plan i) else nodeOf []
+nodeAt plan i = if leb (6 + nodeSize * i + nodeSize) (length plan) then nodeOf (nodePart plan i) else nodeOf []
 
 -- ---- Reading the plan
 
--- letters RPT, 16-bit version 1
+-- letters RPT, 16-bit version 2
 abbrev pub planMark : List ℕ
-planMark = 82 ∷ 80 ∷ 84 ∷ 1 ∷ 0 ∷ []
+planMark = 82 ∷ 80 ∷ 84 ∷ 2 ∷ 0 ∷ []
 
 abbrev pub nodesOf : List ℕ → ℕ
 nodesOf plan = byteAt plan 5
@@ -137,6 +145,6 @@ readPlan plan =
     if ltb (length plan) 6 then Refused 6 else
     if not (startsWith planMark plan) then Refused 7 else
     if not (leb 1 (nodesOf plan) && leb (nodesOf plan) 64) then Refused 8 else
-    if not (eqb (length plan) (6 + 24 * nodesOf plan)) then Refused 6 else
+    if not (eqb (length plan) (6 + nodeSize * nodesOf plan)) then Refused 6 else
     if not (nodesAllowed (nodesOf plan) plan) then Refused 9 else
     Nodes (nodesOf plan)

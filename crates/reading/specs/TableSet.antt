@@ -9,7 +9,7 @@ use lib.Dec.{leb, ltb, eqb}
 use Rattle.algebra.specs.Lists.{if_then_else_, upward}
 use Rattle.algebra.specs.Cells.{blank, offScale, inRange}
 use Rattle.algebra.specs.Plans.{Row, Tables}
-use Rattle.reading.specs.Bytes.{byteAt, u16At, u32At, startsWith, allBelow}
+use Rattle.reading.specs.Bytes.{byteAt, u16At, unsignedAt, startsWith, allBelow}
 use Rattle.reading.specs.declared.set.SetRead.{SetRead}
 use Rattle.reading.specs.declared.set.SetRead.the-variants.{Holds, Refused}
 use Rattle.reading.specs.declared.set.TableRead.{TableRead}
@@ -17,9 +17,9 @@ use Rattle.reading.specs.declared.set.TableRead.the-variants.{Whole, Bad
 
 -- ---- A table's header: 8 bytes
 
--- letters TBL, 16-bit version 1
+-- letters TBL, 16-bit version 2
 abbrev pub tableMark : List ℕ
-tableMark = 84 ∷ 66 ∷ 76 ∷ 1 ∷ 0 ∷ []
+tableMark = 84 ∷ 66 ∷ 76 ∷ 2 ∷ 0 ∷ []
 
 abbrev pub columnsOf : List ℕ → ℕ
 columnsOf table = byteAt table 5
@@ -31,28 +31,32 @@ rowsOf table = u16At table 6
 abbrev pub sizeAllowed : List ℕ → Bool
 sizeAllowed table = leb 1 (columnsOf table) && (leb (columnsOf table) 16 && leb (rowsOf table) 1000)
 
--- ---- Its cells: 4 bytes each, row by row
+-- ---- Its cells, row by row
+
+-- the bytes of a cell
+abbrev pub cellSize : ℕ
+cellSize = 8
 
 abbrev pub cellBytes : List ℕ → ℕ
-cellBytes table = 4 * (columnsOf table * rowsOf table)
+cellBytes table = cellSize * (columnsOf table * rowsOf table)
 
 unfoldable pub cellsOf : List ℕ → List ℕ
 cellsOf table = take (cellBytes table) (drop 8 table)
 
--- The word of a cell is its signed 32-bit code plus 2 ^ 31, so that words are ordered as codes are. The code of x ≥ 2 ^ 31 is x - 2 ^ 32.
+-- The word of a cell is its signed 64-bit code plus 2 ^ 63, so that words are ordered as codes are. The code of x ≥ 2 ^ 63 is x - 2 ^ 64.
 abbrev pub wordOf : ℕ → ℕ
-wordOf x = (x + 2 ^ 31) % 2 ^ 32
+wordOf x = (x + 2 ^ 63) % 2 ^ 64
 
 -- the word of cell i of a table's cells; past the last cell it is blank
 abbrev pub cellAt : List ℕ → ℕ → ℕ
-cellAt cells i = if ltb i (length cells / 4) then wordOf (u32At cells (4 * i)) else blank
+cellAt cells i = if ltb i (length cells / cellSize) then wordOf (unsignedAt cellSize cells (cellSize * i)) else blank
 
--- blank (code -2,147,483,648), off scale (code 2,147,483,647), or a number in the cell range
+-- blank (code -9,223,372,036,854,775,808), off scale (code 9,223,372,036,854,775,807), or a number in the cell range
 abbrev pub cellAllowed : ℕ → Bool
 cellAllowed w = eqb w blank || (eqb w offScale || inRange w)
 
 unfoldable pub cellsAllowed : List ℕ → Bool
-cellsAllowed cells = allBelow (length cells / 4) (λ i. cellAllowed (cellAt cells i))
+cellsAllowed cells = allBelow (length cells / cellSize) (λ i. cellAllowed (cellAt cells i))
 
 -- ---- Reading one table, and the set
 

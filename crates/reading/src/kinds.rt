@@ -158,7 +158,15 @@ pub(crate) const KIND_TABLE: [u8; 150] = [
 ];
 
 // The largest value of each of a test's bytes: no test, then the three forms.
-pub(crate) const TEST_LIMITS: [u8; 32] = [
+pub(crate) const TEST_LIMITS: [u8; 64] = [
+    0,
+    0,
+    0,
+    0,
+    0,
+    0,
+    0,
+    0,
     0,
     0,
     0,
@@ -170,6 +178,14 @@ pub(crate) const TEST_LIMITS: [u8; 32] = [
     0,
     0,
     1,
+    0,
+    0,
+    0,
+    0,
+    0,
+    0,
+    0,
+    0,
     0,
     0,
     0,
@@ -180,6 +196,14 @@ pub(crate) const TEST_LIMITS: [u8; 32] = [
     1,
     255,
     255,
+    0,
+    0,
+    0,
+    0,
+    0,
+    0,
+    0,
+    0,
     0,
     0,
     0,
@@ -191,6 +215,14 @@ pub(crate) const TEST_LIMITS: [u8; 32] = [
     255,
     255,
     255,
+    255,
+    255,
+    255,
+    255,
+    0,
+    0,
+    0,
+    0,
 ];
 
 pub(crate) fn kind_entry(kind: usize, j: usize) -> u8

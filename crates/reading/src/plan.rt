@@ -2,9 +2,7 @@
 ghost use mathlib.Core.Path.{_≡_};
 ghost use Prim.Native.Nat.{_+_, _*_, _≤_, _<_};
 ghost use lib.ListN.{length, drop};
-ghost use Rattle.reading.specs.Bytes.{u32At};
-ghost use Rattle.reading.specs.TableSet.{wordOf};
-ghost use Rattle.reading.specs.Plan.{kindTable, limited, listAllowed, listEnds, testAllowed, countAllowed, fieldsAllowed, nodePart, testOf, nodeOf, nodeAt, nodesAllowed, readPlan};
+ghost use Rattle.reading.specs.Plan.{kindTable, testNumber, limited, listAllowed, listEnds, testAllowed, countAllowed, fieldsAllowed, nodePart, testOf, nodeOf, nodeAt, nodesAllowed, readPlan};
 use crate::bytes::byte_at;
 use crate::bytes::head;
 use crate::bytes::starts_with;
@@ -15,7 +13,7 @@ use crate::kinds::kind_entry;
 use crate::set::number_word;
 use crate::set::word;
 
-pub const PLAN_MARK: [u8; 5] = [82, 80, 84, 1, 0];
+pub const PLAN_MARK: [u8; 5] = [82, 80, 84, 2, 0];
 
 // What reading a plan gives: how many nodes it has, or a refusal's number.
 pub enum PlanRead {
@@ -52,7 +50,7 @@ pub struct Node {
     pub test: Test,
 }
 
-// ---- The fields of a node's 24 bytes
+// ---- The fields of a node's 32 bytes
 
 // Whether each of the first n bytes is at most its limit.
 fn bytes_within(n: usize, bytes: &[u8], limits: &[u8]) -> bool
@@ -114,13 +112,17 @@ fn list_allowed(has: u8, node: &[u8]) -> bool
 }
 
 fn test_number(node: &[u8]) -> u64
-    ensures { λ r. ⌜ r ≡ wordOf (u32At (now (node .entry)) 20) ⌝ }
+    ensures { λ r. ⌜ r ≡ testNumber (now (node .entry)) ⌝ }
 {
     word(
         byte_at(node, 20),
         byte_at(node, 21),
         byte_at(node, 22),
         byte_at(node, 23),
+        byte_at(node, 24),
+        byte_at(node, 25),
+        byte_at(node, 26),
+        byte_at(node, 27),
     )
 }
 
@@ -129,8 +131,8 @@ fn test_allowed(has: u8, node: &[u8]) -> bool
 {
     let form = byte_at(node, 16) as usize;
     let limits = TEST_LIMITS;
-    let row = if has == 0 { 0 } else { 8 * (1 + form) };
-    if !bytes_within(8, tail(node, 16), tail(&limits, row)) {
+    let row = if has == 0 { 0 } else { 16 * (1 + form) };
+    if !bytes_within(16, tail(node, 16), tail(&limits, row)) {
         return false;
     }
     if form != 2 {
@@ -161,13 +163,13 @@ fn fields_allowed(node: &[u8]) -> bool
 
 // ---- The nodes
 
-// The 24 bytes of node i, as a part of the plan.
+// The 32 bytes of node i, as a part of the plan.
 fn node_part(plan: &[u8], i: usize) -> &[u8]
     requires { ⌜ i < 64 ⌝ }
     ensures { λ r. ⌜ now r ≡ nodePart (now (plan .entry)) i ⌝ }
 {
-    let at = 6 + 24 * i;
-    head(tail(plan, at), 24)
+    let at = 6 + 32 * i;
+    head(tail(plan, at), 32)
 }
 
 fn nodes_allowed(n: usize, plan: &[u8]) -> bool
@@ -202,7 +204,7 @@ pub fn read_plan(plan: &[u8]) -> PlanRead
     if 64 < n {
         return PlanRead::Refused(8);
     }
-    if plan.len() != 6 + 24 * n {
+    if plan.len() != 6 + 32 * n {
         return PlanRead::Refused(6);
     }
     if !nodes_allowed(n, plan) {
@@ -214,7 +216,7 @@ pub fn read_plan(plan: &[u8]) -> PlanRead
 // ---- A node's value
 
 fn test_of(node: &[u8]) -> Test
-    requires { ⌜ length (now node) ≡ 24 ⌝ }
+    requires { ⌜ length (now node) ≡ 32 ⌝ }
     ensures { λ r. ⌜ r ≡ testOf (now (node .entry)) ⌝ }
 {
     let form = node[16];
@@ -231,12 +233,12 @@ fn test_of(node: &[u8]) -> Test
     Test::Number {
         comparison: node[17],
         left: node[19],
-        number: word(node[20], node[21], node[22], node[23]),
+        number: test_number(node),
     }
 }
 
 fn node_of(node: &[u8]) -> Node
-    requires { ⌜ length (now node) ≡ 24 ⌝ }
+    requires { ⌜ length (now node) ≡ 32 ⌝ }
     ensures { λ r. ⌜ r ≡ nodeOf (now (node .entry)) ⌝ }
 {
     let test = test_of(node);
@@ -268,9 +270,9 @@ fn node_of(node: &[u8]) -> Node
 pub fn node_at(plan: &[u8], i: usize) -> Node
     ensures { λ r. ⌜ r ≡ nodeAt (now (plan .entry)) i ⌝ }
 {
-    if i < plan.len() / 24 {
-        let at = 6 + 24 * i;
-        let end = at + 24;
+    if i < plan.len() / 32 {
+        let at = 6 + 32 * i;
+        let end = at + 32;
         if end <= plan.len() {
             return node_of(&plan[at..end]);
         }

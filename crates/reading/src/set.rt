@@ -2,7 +2,9 @@
 ghost use mathlib.Core.Path.{_≡_};
 ghost use Prim.Native.Nat.{_+_, _*_, _≤_};
 ghost use lib.ListN.{length, drop};
+ghost use mathlib.Core.List.{[], _∷_};
 ghost use Rattle.algebra.specs.Cells.{inRange};
+ghost use Rattle.reading.specs.Bytes.{unsignedAt};
 ghost use Rattle.reading.specs.TableSet.{columnsOf, rowsOf, cellBytes, cellsOf, wordOf, cellAt, cellAllowed, cellsAllowed, sizeAllowed, readTable, readSet, tableFrom};
 use crate::bytes::byte_at;
 use crate::bytes::head;
@@ -21,25 +23,45 @@ pub enum TableRead {
     Bad(u8),
 }
 
-const TABLE_MARK: [u8; 5] = [84, 66, 76, 1, 0];
+const TABLE_MARK: [u8; 5] = [84, 66, 76, 2, 0];
 
 // ---- Cells
 
-// The word of a cell's four bytes: its signed code plus 2^31.
-pub fn word(b0: u8, b1: u8, b2: u8, b3: u8) -> u64
-    ensures { λ r. ⌜ r ≡ wordOf (b0 + 256 * b1 + 65536 * b2 + 16777216 * b3) ⌝ }
+// The number of four bytes, low byte first.
+fn four_bytes(b0: u8, b1: u8, b2: u8, b3: u8) -> u64
+    ensures { λ r. ⌜ (r ≡ b0 + 256 * (b1 + 256 * (b2 + 256 * b3))) × (r ≤ 4294967295) ⌝ }
 {
-    let x = b0 as u64 + 256 * (b1 as u64) + 65536 * (b2 as u64) + 16777216 * (b3 as u64);
-    (x + 2147483648) % 4294967296
+    b0 as u64 + 256 * (b1 as u64 + 256 * (b2 as u64 + 256 * (b3 as u64)))
+}
+
+// The word of a cell's eight bytes: its signed code plus 2^63.
+pub fn word(b0: u8, b1: u8, b2: u8, b3: u8, b4: u8, b5: u8, b6: u8, b7: u8) -> u64
+    ensures { λ r. ⌜ r ≡ wordOf (unsignedAt 8 (b0 ∷ b1 ∷ b2 ∷ b3 ∷ b4 ∷ b5 ∷ b6 ∷ b7 ∷ []) 0) ⌝ }
+{
+    let x = four_bytes(b0, b1, b2, b3) + 4294967296 * four_bytes(b4, b5, b6, b7);
+    if x < 9223372036854775808 {
+        x + 9223372036854775808
+    } else {
+        x - 9223372036854775808
+    }
 }
 
 // The word of cell i of a table's cells; past the last cell it is blank, 0.
 pub fn cell(cells: &[u8], i: usize) -> u64
     ensures { λ r. ⌜ r ≡ cellAt (now (cells .entry)) i ⌝ }
 {
-    if i < cells.len() / 4 {
-        let at = 4 * i;
-        word(cells[at], cells[at + 1], cells[at + 2], cells[at + 3])
+    if i < cells.len() / 8 {
+        let at = 8 * i;
+        word(
+            cells[at],
+            cells[at + 1],
+            cells[at + 2],
+            cells[at + 3],
+            cells[at + 4],
+            cells[at + 5],
+            cells[at + 6],
+            cells[at + 7],
+        )
     } else {
         0
     }
@@ -49,10 +71,10 @@ pub fn cell(cells: &[u8], i: usize) -> u64
 pub fn number_word(w: u64) -> bool
     ensures { λ r. ⌜ r ≡ inRange w ⌝ }
 {
-    if w < 147483648 {
+    if w < 9214372036854775808 {
         return false;
     }
-    w <= 4147483648
+    w <= 9232372036854775808
 }
 
 // Blank, off scale, or a number in the cell range.
@@ -62,7 +84,7 @@ fn cell_allowed(w: u64) -> bool
     if w == 0 {
         return true;
     }
-    if w == 4294967295 {
+    if w == 18446744073709551615 {
         return true;
     }
     number_word(w)
@@ -72,7 +94,7 @@ fn cell_allowed(w: u64) -> bool
 fn cells_allowed(cells: &[u8]) -> bool
     ensures { λ r. ⌜ r ≡ cellsAllowed (now (cells .entry)) ⌝ }
 {
-    let n = cells.len() / 4;
+    let n = cells.len() / 8;
     let mut i = 0;
     while i < n {
         if !cell_allowed(cell(cells, i)) {
@@ -101,9 +123,9 @@ pub fn rows_of(table: &[u8]) -> usize
 
 fn cell_bytes(table: &[u8]) -> usize
     ensures { λ r. ⌜ r ≡ cellBytes (now (table .entry)) ⌝ }
-    ensures { λ r. ⌜ r ≤ 66845700 ⌝ }
+    ensures { λ r. ⌜ r ≤ 133691400 ⌝ }
 {
-    4 * (columns_of(table) * rows_of(table))
+    8 * (columns_of(table) * rows_of(table))
 }
 
 fn size_allowed(table: &[u8]) -> bool

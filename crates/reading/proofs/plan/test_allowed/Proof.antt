@@ -55,7 +55,7 @@ row-is c =
 
 ranged : (c : tie.After-bytes-within)
     → let a = c .before .before .before .before .before .before .before .args in
-    c .bytes-within .result ≡ limited 8 (drop 16 (a .node .now)) (drop (testRow (a .has) (byteAt (a .node .now) 16)) testLimits)
+    c .bytes-within .result ≡ limited 16 (drop 16 (a .node .now)) (drop (testRow (a .has) (byteAt (a .node .now) 16)) testLimits)
 ranged c = c .bytes-within .ensures ∙ rw (c .before .tail2 .ensures, row-is (c .before .before .before .before), c .before .before .before .tail .ensures)
 
 -- src/plan.rt:151:9
