@@ -34,9 +34,13 @@ origin = 9223372036854775808
 abbrev pub reach : ℕ
 reach = 9000000000000000
 
+-- a cell of a number from -most to most
+abbrev pub withinReach : ℕ → ℕ → Bool
+withinReach most x = leb (origin - most) x && leb x (origin + most)
+
 -- a cell of a number from -9,000,000,000,000,000 to 9,000,000,000,000,000
 abbrev pub inRange : ℕ → Bool
-inRange x = leb (origin - reach) x && leb x (origin + reach)
+inRange x = withinReach reach x
 
 abbrev pub isBlank : ℕ → Bool
 isBlank x = eqb x blank

@@ -17,7 +17,9 @@ use Rattle.algebra.specs.Names.{measured, binaryNames, innerFree, unaryFree, fr
 use Rattle.algebra.specs.Refusals.{byte}
 use Rattle.algebra.proofs.Lists.{all-member, all-from}
 use Rattle.reading.specs.Bytes.{byteAt}
-use Rattle.reading.specs.Plan.{nodeSize, testNumber, nodePart, testOf, nodeOf, nodeAt, nodesOf}
+use Rattle.reading.specs.Versions.{nodeSize}
+use Rattle.reading.specs.declared.version.Version.{Version}
+use Rattle.reading.specs.Plan.{testNumber, planVersion, nodePart, testOf, nodeOf, nodeAt, nodesOf}
 use Rattle.reading.specs.Tree.{formOf, aggregateOf, operatorOf, planAt}
 use Rattle.reading.specs.declared.plan.Test.the-variants.{Always, Columns, Number}
 use Rattle.reading.specs.declared.plan.Node.{Node}
@@ -60,11 +62,11 @@ record Small (node : Node) : Type 0 where
   list : all byte (node .list) ≡ true
   tested : all byte (testNamed node) ≡ true
 
-module _ (part : List ℕ) (h : Bytes part) where
+module _ (v : Version) (part : List ℕ) (h : Bytes part) where
   small-at : (k : ℕ) → byte (byteAt part k) ≡ true
   small-at k = lt-ltb _ 256 (h k)
 
-  node-small : Small (nodeOf part)
+  node-small : Small (nodeOf v part)
   unfolding nodeOf testOf
   node-small = record {
     left = small-at 3;
@@ -74,28 +76,28 @@ module _ (part : List ℕ) (h : Bytes part) where
     tested = by (eqb (byteAt part 16) 0) (eqb (byteAt part 16) 1);
   }
     where
-      by : (a b : Bool) → all byte (formNames (formOf (if a then Always else if b then Columns (byteAt part 17) (byteAt part 19) (byteAt part 20) else Number (byteAt part 17) (byteAt part 19) (testNumber part)))) ≡ true
+      by : (a b : Bool) → all byte (formNames (formOf (if a then Always else if b then Columns (byteAt part 17) (byteAt part 19) (byteAt part 20) else Number (byteAt part 17) (byteAt part 19) (testNumber v part)))) ≡ true
       by true b = refl
       by false true = rw (small-at 19, small-at 20)
       by false false = rw (small-at 19)
 
 module _ (plan : List ℕ) (h : Bytes plan) where
-  part-bytes : (i : ℕ) → Bytes (nodePart plan i)
-  part-bytes i k = elim (decLt k nodeSize) [
-    | yes l ↦ rw (getD-take nodeSize (drop (6 + nodeSize * i) plan) k 0 l, getD-drop (6 + nodeSize * i) plan k 0) (h (6 + nodeSize * i + k))
-    | no l ↦ rw (List·getD-eq-default (nodePart plan i) 0 (past l)) (omega arith)
+  part-bytes : (z i : ℕ) → Bytes (take z (drop (6 + z * i) plan))
+  part-bytes z i k = elim (decLt k z) [
+    | yes l ↦ rw (getD-take z (drop (6 + z * i) plan) k 0 l, getD-drop (6 + z * i) plan k 0) (h (6 + z * i + k))
+    | no l ↦ rw (List·getD-eq-default (take z (drop (6 + z * i) plan)) 0 (past l)) (omega arith)
   ]
     where
-      past : (k < nodeSize → ⊥) → length (nodePart plan i) ≤ k
-      past l = omega (arith, length-take nodeSize (drop (6 + nodeSize * i) plan))
+      past : (k < z → ⊥) → length (take z (drop (6 + z * i) plan)) ≤ k
+      past l = omega (arith, length-take z (drop (6 + z * i) plan))
 
   small-node : (i : ℕ) → Small (nodeAt plan i)
   unfolding nodeAt
-  small-node i = by (leb (6 + nodeSize * i + nodeSize) (length plan))
+  small-node i = by (leb (6 + nodeSize (planVersion plan) * i + nodeSize (planVersion plan)) (length plan))
     where
-      by : (b : Bool) → Small (if b then nodeOf (nodePart plan i) else nodeOf [])
-      by true = node-small (nodePart plan i) (part-bytes i)
-      by false = node-small [] (λ k. omega arith)
+      by : (b : Bool) → Small (if b then nodeOf (planVersion plan) (nodePart plan i) else nodeOf (planVersion plan) [])
+      by true = node-small (planVersion plan) (nodePart plan i) (part-bytes (nodeSize (planVersion plan)) i)
+      by false = node-small (planVersion plan) [] (λ k. omega arith)
 
 module _ (node : Node) (s : Small node) where
   small-measured : all byte (measured (aggregateOf (node .arg) (node .column))) ≡ true

@@ -9,12 +9,15 @@ use lib.Dec.{leb, ltb}
 use borrow.Author.Tests.{leb-true, ltb-true}
 use Rattle.algebra.specs.Refusals.{fields}
 use Rattle.reading.specs.Bytes.{byteAt, allBelow}
-use Rattle.reading.specs.Plan.{nodeSize, kindTable, kindEntry, limited, listEnds, listAllowed, testAllowed, countAllowed, fieldsAllowed, testOf, nodeOf}
+use Rattle.reading.specs.Versions.{nodeSize}
+use Rattle.reading.specs.declared.version.Version.{Version}
+use Rattle.reading.specs.Plan.{kindTable, kindEntry, limited, listEnds, listAllowed, testAllowed, countAllowed, fieldsAllowed, testOf, nodeOf}
 use Rattle.reading.specs.Tree.{operatorBy, operatorOf}
-use Rattle.reading.specs.Encoding.{listBytes, fieldBytes, nodeBytes}
+use Rattle.reading.specs.Encoding.{listBytes, fieldBytes, nodeBytesAs, operatorWithin}
+use Rattle.reading.proofs.VersionLaws.{test-room}
 use Rattle.reading.proofs.Laws.{all-at}
 use Rattle.reading.proofs.Operators.{by-kind}
-use Rattle.reading.proofs.FieldBytes.{and-left, and-right, is-zero, is-byte, comparison-byte, mark-byte, aggregate-bytes, test-bytes, no-test, endsIn, list-bytes, list-fields, Bytes}
+use Rattle.reading.proofs.FieldBytes.{and-left, and-right, is-zero, is-byte, comparison-byte, mark-byte, aggregate-bytes, restSize, test-bytes, no-test, endsIn, list-bytes, list-fields, Bytes}
 
 -- ---- a node's bytes: those of its fields, of its list, of its test
 
@@ -39,7 +42,7 @@ four P n (a ∷ b ∷ c ∷ []) q k = absurd (omega arith)
 four P n (a ∷ b ∷ c ∷ d ∷ r) q k = k a b c d r (omega arith)
 
 -- what fields that are allowed say, one by one
-record Allowed (part : List ℕ) : Type 0 where
+record Allowed (v : Version) (part : List ℕ) : Type 0 where
   pub kind : ltb (byteAt part 0) 15 ≡ true
   pub arg : leb (byteAt (drop 1 part) 0) (byteAt (drop (10 * byteAt part 0 + 1) kindTable) 0) ≡ true
   pub id : leb (byteAt (drop 1 part) 1) (byteAt (drop (10 * byteAt part 0 + 1) kindTable) 1) ≡ true
@@ -50,16 +53,16 @@ record Allowed (part : List ℕ) : Type 0 where
   pub rest : leb (byteAt (drop 1 part) 6) (byteAt (drop (10 * byteAt part 0 + 1) kindTable) 6) ≡ true
   pub counts : countAllowed part ≡ true
   pub list : listAllowed (kindEntry (byteAt part 0) 8) part ≡ true
-  pub test : testAllowed (kindEntry (byteAt part 0) 9) part ≡ true
+  pub test : testAllowed v (kindEntry (byteAt part 0) 9) part ≡ true
 
-allowed-fields : (part : List ℕ) → fieldsAllowed part ≡ true → Allowed part
+allowed-fields : (v : Version) (part : List ℕ) → fieldsAllowed v part ≡ true → Allowed v part
 unfolding fieldsAllowed
-allowed-fields part h =
+allowed-fields v part h =
     let k = ltb (byteAt part 0) 15 in
     let l = limited 7 (drop 1 part) (drop (10 * byteAt part 0 + 1) kindTable) in
     let c = countAllowed part in
     let s = listAllowed (kindEntry (byteAt part 0) 8) part in
-    let t = testAllowed (kindEntry (byteAt part 0) 9) part in
+    let t = testAllowed v (kindEntry (byteAt part 0) 9) part in
     let h₁ = and-right k (l && (c && (s && t))) h in
     let h₂ = and-right l (c && (s && t)) h₁ in
     let h₃ = and-right c (s && t) h₂ in
@@ -78,10 +81,11 @@ allowed-fields part h =
       test = and-right s t h₃;
     }
 
--- a node is the encoding of its operator, and its operator's fields can be written
-pub record Encoded (part : List ℕ) : Type 0 where
-  pub bytes : nodeBytes (operatorOf (nodeOf part)) ≡ part
-  pub allowed : Bytes part → fields (operatorOf (nodeOf part)) ≡ true
+-- a node is the encoding of its operator, and its operator's fields can be written, in its version too
+pub record Encoded (v : Version) (part : List ℕ) : Type 0 where
+  pub bytes : nodeBytesAs v (operatorOf (nodeOf v part)) ≡ part
+  pub allowed : Bytes part → fields (operatorOf (nodeOf v part)) ≡ true
+  pub reached : operatorWithin v (operatorOf (nodeOf v part)) ≡ true
 
 together : {f f′ l l′ t t′ : List ℕ} → f ≡ f′ → l ≡ l′ → t ≡ t′ → f ++ (l ++ t) ≡ f′ ++ (l′ ++ t′)
 together p q r = cc
@@ -94,7 +98,7 @@ zero-is : (a : ℕ) → leb a 0 ≡ true → 0 ≡ a
 zero-is a h = sym (is-zero a h)
 
 -- a node's bytes after its kind; t are those of the test after its first four
-module _ (a i l r c q z n l₁ l₂ l₃ l₄ l₅ l₆ l₇ f o m s : ℕ) (t : List ℕ) (long : length t ≡ 12) where
+module _ (v : Version) (a i l r c q z n l₁ l₂ l₃ l₄ l₅ l₆ l₇ f o m s : ℕ) (t : List ℕ) (long : length t ≡ restSize v) where
   abbrev listPart : List ℕ
   listPart = l₁ ∷ l₂ ∷ l₃ ∷ l₄ ∷ l₅ ∷ l₆ ∷ l₇ ∷ []
 
@@ -129,34 +133,36 @@ module _ (a i l r c q z n l₁ l₂ l₃ l₄ l₅ l₆ l₇ f o m s : ℕ) (t :
   list-of b (suc (suc (suc (suc (suc (suc zero)))))) = b 15
   list-of b (suc (suc (suc (suc (suc (suc (suc j))))))) = omega arith
 
-  unit-bytes : Allowed (bytesOf 0) → Encoded (bytesOf 0)
-  unfolding nodeBytes operatorBy nodeOf testOf fields
+  unit-bytes : Allowed v (bytesOf 0) → Encoded v (bytesOf 0)
+  unfolding nodeBytesAs operatorBy nodeOf testOf fields operatorWithin
   unit-bytes A =
       record {
         bytes =
             together
             (fields-are 0 (zero-is a (A .arg)) (zero-is i (A .id)) (zero-is l (A .left)) (zero-is r (A .right)) (zero-is c (A .comparison)) (zero-is q (A .column)) (is-zero z (A .rest)))
             (no-list 0 (A .list))
-            (sym (no-test f o m s t long (and-left _ _ (A .test))));
+            (sym (no-test v f o m s t long (and-left _ _ (A .test))));
         allowed = λ b. refl;
+        reached = refl;
       }
 
-  scan-bytes : Allowed (bytesOf 1) → Encoded (bytesOf 1)
-  unfolding nodeBytes operatorBy nodeOf testOf fields
+  scan-bytes : Allowed v (bytesOf 1) → Encoded v (bytesOf 1)
+  unfolding nodeBytesAs operatorBy nodeOf testOf fields operatorWithin
   scan-bytes A =
       record {
         bytes =
             together
             (fields-are 1 refl refl (zero-is l (A .left)) (zero-is r (A .right)) (zero-is c (A .comparison)) (zero-is q (A .column)) (is-zero z (A .rest)))
             (no-list 1 (A .list))
-            (sym (no-test f o m s t long (and-left _ _ (A .test))));
+            (sym (no-test v f o m s t long (and-left _ _ (A .test))));
         allowed = λ b. rw (is-byte a (A .arg), is-byte i (A .id));
+        reached = refl;
       }
 
-  select-bytes : Allowed (bytesOf 2) → Encoded (bytesOf 2)
-  unfolding nodeBytes operatorBy nodeOf testOf fields
+  select-bytes : Allowed v (bytesOf 2) → Encoded v (bytesOf 2)
+  unfolding nodeBytesAs operatorBy nodeOf testOf fields operatorWithin
   select-bytes A =
-      let T = test-bytes f o m s t long (A .test) in
+      let T = test-bytes v f o m s t long (A .test) in
       record {
         bytes =
             together
@@ -164,10 +170,11 @@ module _ (a i l r c q z n l₁ l₂ l₃ l₄ l₅ l₆ l₇ f o m s : ℕ) (t :
             (no-list 2 (A .list))
             (T .bytes);
         allowed = λ b. T .allowed;
+        reached = T .reached;
       }
 
-  project-bytes : Allowed (bytesOf 3) → Encoded (bytesOf 3)
-  unfolding nodeBytes operatorBy nodeOf testOf fields
+  project-bytes : Allowed v (bytesOf 3) → Encoded v (bytesOf 3)
+  unfolding nodeBytesAs operatorBy nodeOf testOf fields operatorWithin
   project-bytes A =
       let L = has-list 3 (A .list) in
       record {
@@ -175,12 +182,13 @@ module _ (a i l r c q z n l₁ l₂ l₃ l₄ l₅ l₆ l₇ f o m s : ℕ) (t :
             together
             (fields-are 3 (zero-is a (A .arg)) (zero-is i (A .id)) (zero-is l (A .left)) (zero-is r (A .right)) (zero-is c (A .comparison)) (zero-is q (A .column)) (is-zero z (A .rest)))
             (L .0)
-            (sym (no-test f o m s t long (and-left _ _ (A .test))));
+            (sym (no-test v f o m s t long (and-left _ _ (A .test))));
         allowed = λ b. list-fields listPart n refl (L .1) (L .2) (list-of b);
+        reached = refl;
       }
 
-  distinct-bytes : Allowed (bytesOf 4) → Encoded (bytesOf 4)
-  unfolding nodeBytes operatorBy nodeOf testOf fields
+  distinct-bytes : Allowed v (bytesOf 4) → Encoded v (bytesOf 4)
+  unfolding nodeBytesAs operatorBy nodeOf testOf fields operatorWithin
   distinct-bytes A =
       let L = has-list 4 (A .list) in
       record {
@@ -188,26 +196,28 @@ module _ (a i l r c q z n l₁ l₂ l₃ l₄ l₅ l₆ l₇ f o m s : ℕ) (t :
             together
             (fields-are 4 (zero-is a (A .arg)) (zero-is i (A .id)) (zero-is l (A .left)) (zero-is r (A .right)) (zero-is c (A .comparison)) (zero-is q (A .column)) (is-zero z (A .rest)))
             (L .0)
-            (sym (no-test f o m s t long (and-left _ _ (A .test))));
+            (sym (no-test v f o m s t long (and-left _ _ (A .test))));
         allowed = λ b. list-fields listPart n refl (L .1) (L .2) (list-of b);
+        reached = refl;
       }
 
-  cross-bytes : Allowed (bytesOf 5) → Encoded (bytesOf 5)
-  unfolding nodeBytes operatorBy nodeOf testOf fields
+  cross-bytes : Allowed v (bytesOf 5) → Encoded v (bytesOf 5)
+  unfolding nodeBytesAs operatorBy nodeOf testOf fields operatorWithin
   cross-bytes A =
       record {
         bytes =
             together
             (fields-are 5 (zero-is a (A .arg)) (zero-is i (A .id)) (zero-is l (A .left)) (zero-is r (A .right)) (zero-is c (A .comparison)) (zero-is q (A .column)) (is-zero z (A .rest)))
             (no-list 5 (A .list))
-            (sym (no-test f o m s t long (and-left _ _ (A .test))));
+            (sym (no-test v f o m s t long (and-left _ _ (A .test))));
         allowed = λ b. refl;
+        reached = refl;
       }
 
-  semi-bytes : Allowed (bytesOf 6) → Encoded (bytesOf 6)
-  unfolding nodeBytes operatorBy nodeOf testOf fields
+  semi-bytes : Allowed v (bytesOf 6) → Encoded v (bytesOf 6)
+  unfolding nodeBytesAs operatorBy nodeOf testOf fields operatorWithin
   semi-bytes A =
-      let T = test-bytes f o m s t long (A .test) in
+      let T = test-bytes v f o m s t long (A .test) in
       record {
         bytes =
             together
@@ -215,12 +225,13 @@ module _ (a i l r c q z n l₁ l₂ l₃ l₄ l₅ l₆ l₇ f o m s : ℕ) (t :
             (no-list 6 (A .list))
             (T .bytes);
         allowed = λ b. rw (is-byte l (A .left), is-byte r (A .right), T .allowed);
+        reached = T .reached;
       }
 
-  anti-bytes : Allowed (bytesOf 7) → Encoded (bytesOf 7)
-  unfolding nodeBytes operatorBy nodeOf testOf fields
+  anti-bytes : Allowed v (bytesOf 7) → Encoded v (bytesOf 7)
+  unfolding nodeBytesAs operatorBy nodeOf testOf fields operatorWithin
   anti-bytes A =
-      let T = test-bytes f o m s t long (A .test) in
+      let T = test-bytes v f o m s t long (A .test) in
       record {
         bytes =
             together
@@ -228,12 +239,13 @@ module _ (a i l r c q z n l₁ l₂ l₃ l₄ l₅ l₆ l₇ f o m s : ℕ) (t :
             (no-list 7 (A .list))
             (T .bytes);
         allowed = λ b. rw (is-byte l (A .left), is-byte r (A .right), T .allowed);
+        reached = T .reached;
       }
 
-  some-bytes : Allowed (bytesOf 8) → Encoded (bytesOf 8)
-  unfolding nodeBytes operatorBy nodeOf testOf fields
+  some-bytes : Allowed v (bytesOf 8) → Encoded v (bytesOf 8)
+  unfolding nodeBytesAs operatorBy nodeOf testOf fields operatorWithin
   some-bytes A =
-      let T = test-bytes f o m s t long (A .test) in
+      let T = test-bytes v f o m s t long (A .test) in
       record {
         bytes =
             together
@@ -241,12 +253,13 @@ module _ (a i l r c q z n l₁ l₂ l₃ l₄ l₅ l₆ l₇ f o m s : ℕ) (t :
             (no-list 8 (A .list))
             (T .bytes);
         allowed = λ b. T .allowed;
+        reached = T .reached;
       }
 
-  every-bytes : Allowed (bytesOf 9) → Encoded (bytesOf 9)
-  unfolding nodeBytes operatorBy nodeOf testOf fields
+  every-bytes : Allowed v (bytesOf 9) → Encoded v (bytesOf 9)
+  unfolding nodeBytesAs operatorBy nodeOf testOf fields operatorWithin
   every-bytes A =
-      let T = test-bytes f o m s t long (A .test) in
+      let T = test-bytes v f o m s t long (A .test) in
       record {
         bytes =
             together
@@ -254,12 +267,13 @@ module _ (a i l r c q z n l₁ l₂ l₃ l₄ l₅ l₆ l₇ f o m s : ℕ) (t :
             (no-list 9 (A .list))
             (T .bytes);
         allowed = λ b. T .allowed;
+        reached = T .reached;
       }
 
-  fold-bytes : Allowed (bytesOf 10) → Encoded (bytesOf 10)
-  unfolding nodeBytes operatorBy nodeOf testOf fields
+  fold-bytes : Allowed v (bytesOf 10) → Encoded v (bytesOf 10)
+  unfolding nodeBytesAs operatorBy nodeOf testOf fields operatorWithin
   fold-bytes A =
-      let T = test-bytes f o m s t long (A .test) in
+      let T = test-bytes v f o m s t long (A .test) in
       let G = aggregate-bytes a q (A .arg) (A .column) (A .counts) in
       record {
         bytes =
@@ -268,24 +282,26 @@ module _ (a i l r c q z n l₁ l₂ l₃ l₄ l₅ l₆ l₇ f o m s : ℕ) (t :
             (no-list 10 (A .list))
             (T .bytes);
         allowed = λ b. rw (G .allowed, is-byte i (A .id), T .allowed);
+        reached = T .reached;
       }
 
-  each-bytes : Allowed (bytesOf 11) → Encoded (bytesOf 11)
-  unfolding nodeBytes operatorBy nodeOf testOf fields
+  each-bytes : Allowed v (bytesOf 11) → Encoded v (bytesOf 11)
+  unfolding nodeBytesAs operatorBy nodeOf testOf fields operatorWithin
   each-bytes A =
       record {
         bytes =
             together
             (fields-are 11 (zero-is a (A .arg)) (zero-is i (A .id)) (zero-is l (A .left)) (zero-is r (A .right)) (zero-is c (A .comparison)) (zero-is q (A .column)) (is-zero z (A .rest)))
             (no-list 11 (A .list))
-            (sym (no-test f o m s t long (and-left _ _ (A .test))));
+            (sym (no-test v f o m s t long (and-left _ _ (A .test))));
         allowed = λ b. refl;
+        reached = refl;
       }
 
-  pair-bytes : Allowed (bytesOf 12) → Encoded (bytesOf 12)
-  unfolding nodeBytes operatorBy nodeOf testOf fields
+  pair-bytes : Allowed v (bytesOf 12) → Encoded v (bytesOf 12)
+  unfolding nodeBytesAs operatorBy nodeOf testOf fields operatorWithin
   pair-bytes A =
-      let T = test-bytes f o m s t long (A .test) in
+      let T = test-bytes v f o m s t long (A .test) in
       let G = aggregate-bytes a q (A .arg) (A .column) (A .counts) in
       record {
         bytes =
@@ -294,12 +310,13 @@ module _ (a i l r c q z n l₁ l₂ l₃ l₄ l₅ l₆ l₇ f o m s : ℕ) (t :
             (no-list 12 (A .list))
             (T .bytes);
         allowed = λ b. rw (G .allowed, is-byte i (A .id), is-byte l (A .left), is-byte r (A .right), T .allowed);
+        reached = T .reached;
       }
 
-  group-bytes : Allowed (bytesOf 13) → Encoded (bytesOf 13)
-  unfolding nodeBytes operatorBy nodeOf testOf fields
+  group-bytes : Allowed v (bytesOf 13) → Encoded v (bytesOf 13)
+  unfolding nodeBytesAs operatorBy nodeOf testOf fields operatorWithin
   group-bytes A =
-      let T = test-bytes f o m s t long (A .test) in
+      let T = test-bytes v f o m s t long (A .test) in
       let G = aggregate-bytes a q (A .arg) (A .column) (A .counts) in
       record {
         bytes =
@@ -308,10 +325,11 @@ module _ (a i l r c q z n l₁ l₂ l₃ l₄ l₅ l₆ l₇ f o m s : ℕ) (t :
             (no-list 13 (A .list))
             (T .bytes);
         allowed = λ b. rw (G .allowed, is-byte i (A .id), is-byte l (A .left), is-byte r (A .right), T .allowed);
+        reached = T .reached;
       }
 
-  sort-bytes : Allowed (bytesOf 14) → Encoded (bytesOf 14)
-  unfolding nodeBytes operatorBy nodeOf testOf fields
+  sort-bytes : Allowed v (bytesOf 14) → Encoded v (bytesOf 14)
+  unfolding nodeBytesAs operatorBy nodeOf testOf fields operatorWithin
   sort-bytes A =
       let L = has-list 14 (A .list) in
       record {
@@ -319,28 +337,33 @@ module _ (a i l r c q z n l₁ l₂ l₃ l₄ l₅ l₆ l₇ f o m s : ℕ) (t :
             together
             (fields-are 14 (mark-byte a (A .arg)) (zero-is i (A .id)) (zero-is l (A .left)) (zero-is r (A .right)) (zero-is c (A .comparison)) (zero-is q (A .column)) (is-zero z (A .rest)))
             (L .0)
-            (sym (no-test f o m s t long (and-left _ _ (A .test))));
+            (sym (no-test v f o m s t long (and-left _ _ (A .test))));
         allowed = λ b. list-fields listPart n refl (L .1) (L .2) (list-of b);
+        reached = refl;
       }
 
-  by-every-kind : (k : ℕ) → Allowed (bytesOf k) → Encoded (bytesOf k)
+  by-every-kind : (k : ℕ) → Allowed v (bytesOf k) → Encoded v (bytesOf k)
   by-every-kind =
-      by-kind (λ k. Allowed (bytesOf k) → Encoded (bytesOf k)) unit-bytes scan-bytes select-bytes project-bytes distinct-bytes cross-bytes semi-bytes anti-bytes some-bytes every-bytes fold-bytes each-bytes pair-bytes group-bytes sort-bytes
+      by-kind (λ k. Allowed v (bytesOf k) → Encoded v (bytesOf k)) unit-bytes scan-bytes select-bytes project-bytes distinct-bytes cross-bytes semi-bytes anti-bytes some-bytes every-bytes fold-bytes each-bytes pair-bytes group-bytes sort-bytes
       (λ k h A. absurd (omega (arith, ltb-true k 15 (A .kind))))
 
-pub node-encoded : (part : List ℕ) → length part ≡ nodeSize → fieldsAllowed part ≡ true → Encoded part
-node-encoded part e =
-    eight (λ s. fieldsAllowed s ≡ true → Encoded s) 24 part e
+pub node-encoded : (v : Version) (part : List ℕ) → length part ≡ nodeSize v → fieldsAllowed v part ≡ true → Encoded v part
+node-encoded v part e =
+    eight (λ s. fieldsAllowed v s ≡ true → Encoded v s) (12 + restSize v) part (omega (arith, e, test-room v))
     (λ k a i l r c q z s₁ e₁.
-    eight (λ s. fieldsAllowed (k ∷ a ∷ i ∷ l ∷ r ∷ c ∷ q ∷ z ∷ s) ≡ true → Encoded (k ∷ a ∷ i ∷ l ∷ r ∷ c ∷ q ∷ z ∷ s)) 16 s₁ e₁
+    eight (λ s. fieldsAllowed v (k ∷ a ∷ i ∷ l ∷ r ∷ c ∷ q ∷ z ∷ s) ≡ true → Encoded v (k ∷ a ∷ i ∷ l ∷ r ∷ c ∷ q ∷ z ∷ s)) (4 + restSize v) s₁ (omega arith)
     (λ n l₁ l₂ l₃ l₄ l₅ l₆ l₇ s₂ e₂.
-    four (λ s. fieldsAllowed (k ∷ a ∷ i ∷ l ∷ r ∷ c ∷ q ∷ z ∷ n ∷ l₁ ∷ l₂ ∷ l₃ ∷ l₄ ∷ l₅ ∷ l₆ ∷ l₇ ∷ s) ≡ true → Encoded (k ∷ a ∷ i ∷ l ∷ r ∷ c ∷ q ∷ z ∷ n ∷ l₁ ∷ l₂ ∷ l₃ ∷ l₄ ∷ l₅ ∷ l₆ ∷ l₇ ∷ s)) 12 s₂ e₂
-    (λ f o m s t long h. by-every-kind a i l r c q z n l₁ l₂ l₃ l₄ l₅ l₆ l₇ f o m s t long k (allowed-fields _ h))))
+    four (λ s. fieldsAllowed v (k ∷ a ∷ i ∷ l ∷ r ∷ c ∷ q ∷ z ∷ n ∷ l₁ ∷ l₂ ∷ l₃ ∷ l₄ ∷ l₅ ∷ l₆ ∷ l₇ ∷ s) ≡ true → Encoded v (k ∷ a ∷ i ∷ l ∷ r ∷ c ∷ q ∷ z ∷ n ∷ l₁ ∷ l₂ ∷ l₃ ∷ l₄ ∷ l₅ ∷ l₆ ∷ l₇ ∷ s)) (restSize v) s₂ (omega arith)
+    (λ f o m s t long h. by-every-kind v a i l r c q z n l₁ l₂ l₃ l₄ l₅ l₆ l₇ f o m s t long k (allowed-fields v _ h))))
 
 -- A node whose fields are allowed is the encoding of its operator, byte for byte.
-pub node-bytes : (part : List ℕ) → length part ≡ nodeSize → fieldsAllowed part ≡ true → nodeBytes (operatorOf (nodeOf part)) ≡ part
-node-bytes part e h = node-encoded part e h .bytes
+pub node-bytes : (v : Version) (part : List ℕ) → length part ≡ nodeSize v → fieldsAllowed v part ≡ true → nodeBytesAs v (operatorOf (nodeOf v part)) ≡ part
+node-bytes v part e h = node-encoded v part e h .bytes
 
 -- Its operator's fields can be written. A list's entries have no limit of their own, so this asks that they are bytes.
-pub fields-of : (part : List ℕ) → length part ≡ nodeSize → fieldsAllowed part ≡ true → Bytes part → fields (operatorOf (nodeOf part)) ≡ true
-fields-of part e h = node-encoded part e h .allowed
+pub fields-of : (v : Version) (part : List ℕ) → length part ≡ nodeSize v → fieldsAllowed v part ≡ true → Bytes part → fields (operatorOf (nodeOf v part)) ≡ true
+fields-of v part e h = node-encoded v part e h .allowed
+
+-- Its test's number is in the version's range.
+pub within-of : (v : Version) (part : List ℕ) → length part ≡ nodeSize v → fieldsAllowed v part ≡ true → operatorWithin v (operatorOf (nodeOf v part)) ≡ true
+within-of v part e h = node-encoded v part e h .reached

@@ -10,15 +10,18 @@ use lib.Dec.{leb, ltb, eqb}
 use lib.Seq.{length-take-le, getD-drop, drop-at}
 use borrow.Author.Tests.{leb-true, le-leb, ltb-true, lt-ltb, le-ltb, eqb-true}
 use Rattle.algebra.specs.Lists.{if_then_else_, all}
-use Rattle.algebra.specs.Cells.{Comparison, eq, ne, lt, le, gt, ge, sum, least, greatest, Aggregate, count, over, inRange, origin, reach}
+use Rattle.algebra.specs.Cells.{Comparison, eq, ne, lt, le, gt, ge, sum, least, greatest, Aggregate, count, over, withinReach, inRange}
 use Rattle.algebra.specs.Plans.{always, columnsOf, numberOf, Test, test}
 use Rattle.algebra.specs.Refusals.{byte, listFields, testFields, aggregateFields}
 use Rattle.reading.specs.Bytes.{byteAt, unsignedAt, allBelow}
-use Rattle.reading.specs.TableSet.{cellSize, wordOf}
+use Rattle.reading.specs.Versions.{cellSize, testSize, reachOf, wordOf, unsignedCode}
+use Rattle.reading.specs.declared.version.Version.{Version}
+use Rattle.reading.specs.declared.version.Version.the-variants.{First, Second}
 use Rattle.reading.specs.Plan.{testLimits, limited, testRow}
 use Rattle.reading.specs.Tree.{comparisonOf, aggregateOf, formOf}
 use Rattle.reading.specs.declared.plan.Test.the-variants.{Always, Columns, Number}
-use Rattle.reading.specs.Encoding.{comparisonByte, markByte, aggregateByte, columnByte, lowBytes, numberBytes, testBytes, noTest, listBytes}
+use Rattle.reading.specs.Encoding.{comparisonByte, markByte, aggregateByte, columnByte, lowBytes, numberBytes, testBytes, noTest, testWithin, listBytes}
+use Rattle.reading.proofs.VersionLaws.{reach-in, number-allowed, code-bound, code-word, word-code, test-room}
 use Rattle.reading.proofs.Laws.{all-at, all-holds}
 use Rattle.reading.proofs.NumberBytes.{unsigned-bound, low-value, value-low}
 
@@ -142,12 +145,6 @@ aggregate-bytes a c h k z = go a (leb-true a 3 h) z
     go (suc (suc (suc zero))) l z = record { code = refl; column = refl; allowed = is-byte c k }
     go (suc (suc (suc (suc a)))) l z = absurd (omega arith)
 
--- ---- a test's number
-
--- adding half the range twice comes round
-pub word-back : (x : ℕ) → x < 2 ^ 64 → wordOf (wordOf x) ≡ x
-word-back x h = omega arith
-
 -- ---- bytes and their limits
 
 limited-at : (n : ℕ) (s limits : List ℕ) → limited n s limits ≡ true → (k : ℕ) → k < n → byteAt s k ≤ byteAt limits k
@@ -181,6 +178,18 @@ zeros-are (suc n) (x ∷ s) more e h =
     let z : x ≡ 0 = omega (arith, h 0 (omega arith)) in
     rw z (ap (_∷_ 0) (zeros-are n s more (omega arith) (λ k l. h (suc k) (omega arith))))
 
+zeros-below : (n : ℕ) (s : List ℕ) → length s ≡ n → ((k : ℕ) → k < n → byteAt s k ≤ 0) → s ≡ replicate n 0
+zeros-below n s e h = zeros-are n s [] e (λ k l. rw (same-limit n 0 k [] l) (h k l))
+
+-- zeros have any limits
+zero-limits : (n : ℕ) (limits : List ℕ) (k : ℕ) → byteAt (replicate n 0) k ≤ byteAt limits k
+zero-limits n limits k = omega (arith, zero-at n k)
+  where
+    zero-at : (n k : ℕ) → byteAt (replicate n 0) k ≡ 0
+    zero-at zero k = refl
+    zero-at (suc n) zero = refl
+    zero-at (suc n) (suc k) = zero-at n k
+
 -- a number's n bytes have no limit
 number-small : (n : ℕ) (s more : List ℕ) → ((k : ℕ) → k < n → byteAt s k ≤ byteAt (replicate n 255 ++ more) k) → (k : ℕ) → k < n → byteAt s k ≤ 255
 number-small n s more h k l = omega (arith, h k l, same-limit n 255 k more l)
@@ -201,12 +210,12 @@ number-are n z s more e h =
     past k l = rw (getD-drop n s k 0, ← limit-past n k (replicate z 0 ++ more)) (h (n + k) (omega arith))
 
 -- a number's bytes are within its limits
-low-limits : (n z x k : ℕ) → byteAt (lowBytes n x ++ replicate z 0) k ≤ byteAt (replicate n 255 ++ replicate z 0) k
-low-limits zero z x k = le-refl _
-low-limits (suc n) z x zero = omega arith
-low-limits (suc n) z x (suc k) = low-limits n z (x / 256) k
+low-limits : (n z : ℕ) (more : List ℕ) (x k : ℕ) → byteAt (lowBytes n x ++ replicate z 0) k ≤ byteAt (replicate n 255 ++ (replicate z 0 ++ more)) k
+low-limits zero z more x k = zero-limits z (replicate z 0 ++ more) k
+low-limits (suc n) z more x zero = omega arith
+low-limits (suc n) z more x (suc k) = low-limits n z more (x / 256) k
 
-zeros-small : (z : ℕ) → all byte (replicate z 0) ≡ true
+pub zeros-small : (z : ℕ) → all byte (replicate z 0) ≡ true
 zeros-small zero = refl
 zeros-small (suc z) = zeros-small z
 
@@ -214,133 +223,219 @@ low-small : (n z x : ℕ) → all byte (lowBytes n x ++ replicate z 0) ≡ true
 low-small zero z x = zeros-small z
 low-small (suc n) z x = rw (is-small (x % 256) (omega arith), low-small n z (x / 256))
 
--- ---- a test's 16 bytes: the first four, and the rest as a list
+-- ---- a test's bytes: the first four, and the rest as a list
+
+-- how many the rest are, and how many zeros follow a number in it
+abbrev pub restSize : Version → ℕ
+restSize v = testSize v - 4
+
+abbrev zerosAfter : Version → ℕ
+zerosAfter v = restSize v - cellSize v
 
 -- the test that they are
-abbrev pub testOn : ℕ → ℕ → ℕ → ℕ → List ℕ → Test
-testOn f c m l s =
-    test (eqb m 1) (formOf (if eqb f 0 then Always else if eqb f 1 then Columns c l (byteAt s 0) else Number c l (wordOf (unsignedAt cellSize s 0))))
+abbrev pub testOn : Version → ℕ → ℕ → ℕ → ℕ → List ℕ → Test
+testOn v f c m l s =
+    test (eqb m 1) (formOf (if eqb f 0 then Always else if eqb f 1 then Columns c l (byteAt s 0) else Number c l (wordOf v (unsignedAt (cellSize v) s 0))))
 
-abbrev pub testLimited : ℕ → ℕ → ℕ → ℕ → List ℕ → Bool
-testLimited f c m l s =
-    limited 16 (f ∷ c ∷ m ∷ l ∷ s) (drop (testRow 1 f) testLimits)
-    && (not (eqb f 2) || inRange (wordOf (unsignedAt cellSize s 0)))
+abbrev pub testLimited : Version → ℕ → ℕ → ℕ → ℕ → List ℕ → Bool
+testLimited v f c m l s =
+    limited (testSize v) (f ∷ c ∷ m ∷ l ∷ s) (drop (testRow 1 f) testLimits)
+    && (not (eqb f 2) || withinReach (reachOf v) (wordOf v (unsignedAt (cellSize v) s 0)))
 
-pub record TestBytes (f c m l : ℕ) (s : List ℕ) : Type 0 where
-  pub bytes : testBytes (testOn f c m l s) ≡ f ∷ c ∷ m ∷ l ∷ s
-  pub allowed : testFields (testOn f c m l s) ≡ true
+pub record TestBytes (v : Version) (f c m l : ℕ) (s : List ℕ) : Type 0 where
+  pub bytes : testBytes v (testOn v f c m l s) ≡ f ∷ c ∷ m ∷ l ∷ s
+  pub allowed : testFields (testOn v f c m l s) ≡ true
+  pub reached : testWithin v (testOn v f c m l s) ≡ true
 
-module _ (c m l : ℕ) (s : List ℕ) (long : length s ≡ 12) where
-  always-bytes : limited 16 (0 ∷ c ∷ m ∷ l ∷ s) (drop 16 testLimits) ≡ true → TestBytes 0 c m l s
+-- a row's limits after its first four, for the first bytes that a version has of them
+rest-room : (v : Version) (k : ℕ) → k < restSize v → suc (suc (suc (suc k))) < testSize v
+rest-room First k h = omega arith
+rest-room Second k h = omega arith
+
+rest-low : (v : Version) → restSize v ≤ 12
+rest-low First = omega arith
+rest-low Second = omega arith
+
+moreLimits : Version → List ℕ
+moreLimits First = drop 56 testLimits
+moreLimits Second = []
+
+number-row : (v : Version) → drop 52 testLimits ≡ replicate (cellSize v) 255 ++ (replicate (zerosAfter v) 0 ++ moreLimits v)
+unfolding moreLimits
+number-row First = refl
+number-row Second = refl
+
+sizes : (v : Version) → restSize v ≡ cellSize v + zerosAfter v
+sizes First = refl
+sizes Second = refl
+
+module _ (v : Version) (c m l : ℕ) (s : List ℕ) (long : length s ≡ restSize v) where
+  always-bytes : limited (testSize v) (0 ∷ c ∷ m ∷ l ∷ s) (drop 16 testLimits) ≡ true → TestBytes v 0 c m l s
   always-bytes h =
-      let at = all-at 16 _ h in
-      let rest = zeros-are 12 s (drop 32 testLimits) long (λ k p. limited-at 16 (0 ∷ c ∷ m ∷ l ∷ s) (drop 16 testLimits) h (suc (suc (suc (suc k)))) (omega arith)) in
+      let at = all-at (testSize v) _ h in
+      let room = test-room v in
+      let below = limited-at (testSize v) (0 ∷ c ∷ m ∷ l ∷ s) (drop 16 testLimits) h in
+      let rest = zeros-below (restSize v) s long (λ k p.
+      let q = below (suc (suc (suc (suc k)))) (rest-room v k p) in
+      omega (arith, q, same-limit 12 0 k (drop 32 testLimits) (omega (arith, rest-low v)))) in
       record {
         bytes = rw (mark-byte m (at 2 (omega arith)), is-zero c (at 1 (omega arith)), is-zero l (at 3 (omega arith)), rest);
         allowed = refl;
+        reached = refl;
       }
 
-  number-test-bytes : limited 16 (2 ∷ c ∷ m ∷ l ∷ s) (drop 48 testLimits) ≡ true → inRange (wordOf (unsignedAt cellSize s 0)) ≡ true → TestBytes 2 c m l s
+  number-test-bytes : limited (testSize v) (2 ∷ c ∷ m ∷ l ∷ s) (drop 48 testLimits) ≡ true → withinReach (reachOf v) (wordOf v (unsignedAt (cellSize v) s 0)) ≡ true → TestBytes v 2 c m l s
   number-test-bytes h r =
-      let at = all-at 16 _ h in
-      let limits : (k : ℕ) → k < 12 → byteAt s k ≤ byteAt (replicate 8 255 ++ (replicate 4 0 ++ [])) k =
-      λ k p. limited-at 16 (2 ∷ c ∷ m ∷ l ∷ s) (drop 48 testLimits) h (suc (suc (suc (suc k)))) (omega arith) in
-      let small = number-small 8 s (replicate 4 0) (λ k p. limits k (omega arith)) in
-      let e = word-back (unsignedAt 8 s 0) (unsigned-bound 8 s 0 (λ k p q. small k (omega arith))) in
+      let at = all-at (testSize v) _ h in
+      let room = test-room v in
+      let n : ℕ = cellSize v in
+      let z : ℕ = zerosAfter v in
+      let x : ℕ = unsignedAt n s 0 in
+      let limits : (k : ℕ) → k < n + z → byteAt s k ≤ byteAt (replicate n 255 ++ (replicate z 0 ++ moreLimits v)) k =
+      λ k p. rw (← number-row v) (limited-at (testSize v) (2 ∷ c ∷ m ∷ l ∷ s) (drop 48 testLimits) h (suc (suc (suc (suc k)))) (rest-room v k (rw (sizes v) p))) in
+      let small = number-small n s (replicate z 0 ++ moreLimits v) (λ k p. limits k (omega arith)) in
+      let e : unsignedCode v (wordOf v x) ≡ x = code-word v x (unsigned-bound n s 0 (λ k p q. small k (omega arith))) in
       record {
         bytes =
             rw (comparison-byte c (at 1 (omega arith)), mark-byte m (at 2 (omega arith)))
-            (ap (λ (y : ℕ). 2 ∷ c ∷ m ∷ l ∷ (lowBytes 8 y ++ replicate 4 0)) e ∙ ap (λ (s : List ℕ). 2 ∷ c ∷ m ∷ l ∷ s) (number-are 8 4 s [] long limits));
-        allowed = rw (is-byte l (at 3 (omega arith)), r);
+            (ap (λ (y : ℕ). 2 ∷ c ∷ m ∷ l ∷ (lowBytes n y ++ replicate z 0)) e ∙ ap (λ (s : List ℕ). 2 ∷ c ∷ m ∷ l ∷ s) (number-are n z s (moreLimits v) (long ∙ sizes v) limits));
+        allowed = rw (is-byte l (at 3 (omega arith)), reach-in v (wordOf v x) r);
+        reached = r;
       }
 
-  form-past : (f : ℕ) → 2 < f → limited 16 (f ∷ c ∷ m ∷ l ∷ s) (drop (16 * (1 + f)) testLimits) ≡ true → ⊥
+  form-past : (f : ℕ) → 2 < f → limited (testSize v) (f ∷ c ∷ m ∷ l ∷ s) (drop (16 * (1 + f)) testLimits) ≡ true → ⊥
   form-past f h e =
       let past : 64 ≤ 16 * (1 + f) = omega arith in
       let q : drop (16 * (1 + f)) testLimits ≡ [] = drop-of-length-le testLimits past in
-      let at : leb f (byteAt (drop (16 * (1 + f)) testLimits) 0) ≡ true = all-at 16 _ e 0 (omega arith) in
+      let at : leb f (byteAt (drop (16 * (1 + f)) testLimits) 0) ≡ true = all-at (testSize v) _ e 0 (omega (arith, test-room v)) in
       let zero-limit : leb f 0 ≡ true = rw q at at in
       omega (arith, leb-true f 0 zero-limit)
 
-columns-bytes : (c m l : ℕ) (s : List ℕ) → length s ≡ 12 → limited 16 (1 ∷ c ∷ m ∷ l ∷ s) (drop 32 testLimits) ≡ true → TestBytes 1 c m l s
-columns-bytes c m l [] long h = absurd (omega arith)
-columns-bytes c m l (x ∷ s) long h =
-    let at = all-at 16 _ h in
-    let rest = zeros-are 11 s (drop 48 testLimits) (omega arith) (λ k p. limited-at 16 (1 ∷ c ∷ m ∷ l ∷ x ∷ s) (drop 32 testLimits) h (suc (suc (suc (suc (suc k))))) (omega arith)) in
+columns-bytes : (v : Version) (c m l : ℕ) (s : List ℕ) → length s ≡ restSize v → limited (testSize v) (1 ∷ c ∷ m ∷ l ∷ s) (drop 32 testLimits) ≡ true → TestBytes v 1 c m l s
+columns-bytes v c m l [] long h = absurd (omega (arith, test-room v))
+columns-bytes v c m l (x ∷ s) long h =
+    let at = all-at (testSize v) _ h in
+    let room = test-room v in
+    let below = limited-at (testSize v) (1 ∷ c ∷ m ∷ l ∷ x ∷ s) (drop 32 testLimits) h in
+    let rest : s ≡ replicate (testSize v - 5) 0 = zeros-below (testSize v - 5) s (omega arith) (λ k p.
+    let q = below (suc (suc (suc (suc (suc k))))) (omega arith) in
+    omega (arith, q, same-limit 11 0 k (drop 48 testLimits) (omega (arith, rest-low v)))) in
     record {
       bytes = rw (comparison-byte c (at 1 (omega arith)), mark-byte m (at 2 (omega arith)), rest);
       allowed = rw (is-byte l (at 3 (omega arith)), is-byte x (at 4 (omega arith)));
+      reached = refl;
     }
 
-pub test-bytes : (f c m l : ℕ) (s : List ℕ) → length s ≡ 12 → testLimited f c m l s ≡ true → TestBytes f c m l s
-test-bytes zero c m l s long h = always-bytes c m l s long (and-left _ _ h)
-test-bytes (suc zero) c m l s long h = columns-bytes c m l s long (and-left _ _ h)
-test-bytes (suc (suc zero)) c m l s long h = number-test-bytes c m l s long (and-left _ _ h) (and-right (limited 16 (2 ∷ c ∷ m ∷ l ∷ s) (drop 48 testLimits)) _ h)
-test-bytes (suc (suc (suc f))) c m l s long h = absurd (form-past c m l s long (suc (suc (suc f))) (omega arith) (and-left _ _ h))
+pub test-bytes : (v : Version) (f c m l : ℕ) (s : List ℕ) → length s ≡ restSize v → testLimited v f c m l s ≡ true → TestBytes v f c m l s
+test-bytes v zero c m l s long h = always-bytes v c m l s long (and-left _ _ h)
+test-bytes v (suc zero) c m l s long h = columns-bytes v c m l s long (and-left _ _ h)
+test-bytes v (suc (suc zero)) c m l s long h = number-test-bytes v c m l s long (and-left _ _ h) (and-right (limited (testSize v) (2 ∷ c ∷ m ∷ l ∷ s) (drop 48 testLimits)) _ h)
+test-bytes v (suc (suc (suc f))) c m l s long h = absurd (form-past v c m l s long (suc (suc (suc f))) (omega arith) (and-left _ _ h))
 
 -- a kind with no test has zeros there
-pub no-test : (f c m l : ℕ) (s : List ℕ) → length s ≡ 12 → limited 16 (f ∷ c ∷ m ∷ l ∷ s) testLimits ≡ true → f ∷ c ∷ m ∷ l ∷ s ≡ noTest
-no-test f c m l s long h = zeros-are 16 (f ∷ c ∷ m ∷ l ∷ s) (drop 16 testLimits) (omega arith) (limited-at 16 (f ∷ c ∷ m ∷ l ∷ s) testLimits h)
+pub no-test : (v : Version) (f c m l : ℕ) (s : List ℕ) → length s ≡ restSize v → limited (testSize v) (f ∷ c ∷ m ∷ l ∷ s) testLimits ≡ true → f ∷ c ∷ m ∷ l ∷ s ≡ noTest v
+no-test v f c m l s long h =
+    zeros-below (testSize v) (f ∷ c ∷ m ∷ l ∷ s) (omega (arith, test-room v)) (λ k p.
+    let q = limited-at (testSize v) (f ∷ c ∷ m ∷ l ∷ s) testLimits h k p in
+    omega (arith, q, same-limit 16 0 k (drop 16 testLimits) (omega (arith, rest-low v))))
 
 -- the way back
-pub record TestBack (t : Test) : Type 0 where
+pub record TestBack (v : Version) (t : Test) : Type 0 where
   pub f : ℕ
   pub c : ℕ
   pub m : ℕ
   pub l : ℕ
   pub rest : List ℕ
-  pub long : length rest ≡ 12
-  pub bytes : testBytes t ≡ f ∷ c ∷ m ∷ l ∷ rest
-  pub kept : testOn f c m l rest ≡ t
-  pub limits : testLimited f c m l rest ≡ true
+  pub long : length rest ≡ restSize v
+  pub bytes : testBytes v t ≡ f ∷ c ∷ m ∷ l ∷ rest
+  pub kept : testOn v f c m l rest ≡ t
+  pub limits : testLimited v f c m l rest ≡ true
   pub small : all byte (f ∷ c ∷ m ∷ l ∷ rest) ≡ true
 
-number-kept : (k : Bool) (o : Comparison) (a v : ℕ) (s : List ℕ) → wordOf (unsignedAt cellSize s 0) ≡ v
-    → testOn 2 (comparisonByte o) (markByte k) a s ≡ test k (numberOf o a v)
-number-kept k o a v s e = rw (mark-back k, comparison-back o, e)
+number-kept : (v : Version) (k : Bool) (o : Comparison) (a w : ℕ) (s : List ℕ) → wordOf v (unsignedAt (cellSize v) s 0) ≡ w
+    → testOn v 2 (comparisonByte o) (markByte k) a s ≡ test k (numberOf o a w)
+number-kept v k o a w s e = rw (mark-back k, comparison-back o, e)
 
-number-limited : (o : Comparison) (k : Bool) (a : ℕ) (s : List ℕ) → byte a ≡ true → ((j : ℕ) → byteAt s j ≤ byteAt (drop 52 testLimits) j)
-    → inRange (wordOf (unsignedAt cellSize s 0)) ≡ true → testLimited 2 (comparisonByte o) (markByte k) a s ≡ true
-number-limited o k a s h g r = rw (four-limited 12 2 (comparisonByte o) (markByte k) a 2 5 1 255 s (drop 52 testLimits) refl (comparison-limit o) (mark-limit k) (byte-is a h) g) r
+-- limits that hold of any bytes after the first four
+rest-limited : (v : Version) (f c m l a b d e : ℕ) (s limits : List ℕ) → leb f a ≡ true → leb c b ≡ true → leb m d ≡ true → leb l e ≡ true
+    → ((k : ℕ) → byteAt s k ≤ byteAt limits k) → limited (testSize v) (f ∷ c ∷ m ∷ l ∷ s) (a ∷ b ∷ d ∷ e ∷ limits) ≡ true
+rest-limited First f c m l a b d e s limits p q r t h = four-limited 4 f c m l a b d e s limits p q r t h
+rest-limited Second f c m l a b d e s limits p q r t h = four-limited 12 f c m l a b d e s limits p q r t h
 
-pub test-back : (t : Test) → testFields t ≡ true → TestBack t
-unfolding allBelow
-test-back (test k always) h =
-    record { f = 0; c = 0; m = markByte k; l = 0; rest = replicate 12 0; long = refl; bytes = refl; kept = rw (mark-back k); limits = rw (mark-limit k); small = rw (mark-small k) }
-test-back (test k (columnsOf o a b)) h =
+-- a number's bytes are within their limits
+number-limits : (v : Version) (x k : ℕ) → byteAt (lowBytes (cellSize v) x ++ replicate (zerosAfter v) 0) k ≤ byteAt (drop 52 testLimits) k
+number-limits First x k = low-limits 4 0 (replicate 4 255 ++ replicate 4 0) x k
+number-limits Second x k = low-limits 8 4 [] x k
+
+always-limited : (v : Version) (k : Bool) → testLimited v 0 0 (markByte k) 0 (replicate (restSize v) 0) ≡ true
+always-limited v k = rw (rest-limited v 0 0 (markByte k) 0 0 0 1 0 (replicate (restSize v) 0) (drop 20 testLimits) refl refl (mark-limit k) refl (zero-limits (restSize v) (drop 20 testLimits)))
+
+columns-limited : (v : Version) (k : Bool) (o : Comparison) (a b : ℕ) → byte a ≡ true → byte b ≡ true → testLimited v 1 (comparisonByte o) (markByte k) a (b ∷ replicate (testSize v - 5) 0) ≡ true
+columns-limited v k o a b ha hb =
+    rw (rest-limited v 1 (comparisonByte o) (markByte k) a 1 5 1 255 (b ∷ replicate (testSize v - 5) 0) (drop 36 testLimits) refl (comparison-limit o) (mark-limit k) (byte-is a ha) at)
+  where
+    at : (j : ℕ) → byteAt (b ∷ replicate (testSize v - 5) 0) j ≤ byteAt (drop 36 testLimits) j
+    at zero = leb-true b 255 (byte-is b hb)
+    at (suc j) = zero-limits (testSize v - 5) (drop 37 testLimits) j
+
+number-limited : (v : Version) (o : Comparison) (k : Bool) (a : ℕ) (s : List ℕ) → byte a ≡ true → ((j : ℕ) → byteAt s j ≤ byteAt (drop 52 testLimits) j)
+    → withinReach (reachOf v) (wordOf v (unsignedAt (cellSize v) s 0)) ≡ true → testLimited v 2 (comparisonByte o) (markByte k) a s ≡ true
+number-limited v o k a s h g r =
+    rw (rest-limited v 2 (comparisonByte o) (markByte k) a 2 5 1 255 s (drop 52 testLimits) refl (comparison-limit o) (mark-limit k) (byte-is a h) g) r
+
+rest-long : (v : Version) (x : ℕ) → length (lowBytes (cellSize v) x ++ replicate (zerosAfter v) 0) ≡ restSize v
+rest-long First x = refl
+rest-long Second x = refl
+
+number-back : (v : Version) (w : ℕ) → withinReach (reachOf v) w ≡ true → wordOf v (unsignedAt (cellSize v) (numberBytes v w ++ replicate (zerosAfter v) 0) 0) ≡ w
+number-back v w r =
+    ap (wordOf v) (low-value (cellSize v) (unsignedCode v w) (replicate (zerosAfter v) 0) (code-bound v w)) ∙ word-code v w (number-allowed v w r)
+
+pub test-back : (v : Version) (t : Test) → testFields t ≡ true → testWithin v t ≡ true → TestBack v t
+test-back v (test k always) h g =
+    record {
+      f = 0;
+      c = 0;
+      m = markByte k;
+      l = 0;
+      rest = replicate (restSize v) 0;
+      long = length-replicate (restSize v) 0;
+      bytes = refl;
+      kept = rw (mark-back k);
+      limits = always-limited v k;
+      small = rw (mark-small k) (zeros-small (restSize v));
+    }
+test-back v (test k (columnsOf o a b)) h g =
+    let ha = and-left (byte a) (byte b) h in
+    let hb = and-right (byte a) (byte b) h in
     record {
       f = 1;
       c = comparisonByte o;
       m = markByte k;
       l = a;
-      rest = b ∷ replicate 11 0;
-      long = refl;
+      rest = b ∷ replicate (testSize v - 5) 0;
+      long = omega (arith, length-replicate {A = ℕ} (testSize v - 5) 0, test-room v);
       bytes = refl;
       kept = rw (mark-back k, comparison-back o);
-      limits = rw (mark-limit k, comparison-limit o, byte-is a (and-left (byte a) (byte b) h), byte-is b (and-right (byte a) (byte b) h));
-      small = rw (comparison-small o, mark-small k, and-left (byte a) (byte b) h, and-right (byte a) (byte b) h);
+      limits = columns-limited v k o a b ha hb;
+      small = rw (comparison-small o, mark-small k, ha, hb) (zeros-small (testSize v - 5));
     }
-test-back (test k (numberOf o a v)) h =
-    let ha = and-left (byte a) (inRange v) h in
-    let hv = and-right (byte a) (inRange v) h in
-    let e = number-back v hv in
+test-back v (test k (numberOf o a w)) h g =
+    let ha = and-left (byte a) (inRange w) h in
+    let e = number-back v w g in
+    let rest : List ℕ = numberBytes v w ++ replicate (zerosAfter v) 0 in
     record {
       f = 2;
       c = comparisonByte o;
       m = markByte k;
       l = a;
-      rest = numberBytes v ++ replicate 4 0;
-      long = refl;
+      rest = rest;
+      long = rest-long v (unsignedCode v w);
       bytes = refl;
-      kept = number-kept k o a v (numberBytes v ++ replicate 4 0) e;
-      limits = number-limited o k a (numberBytes v ++ replicate 4 0) ha (low-limits 8 4 (wordOf v)) (ap inRange e ∙ hv);
-      small = rw (comparison-small o, mark-small k, ha) (low-small 8 4 (wordOf v));
+      kept = number-kept v k o a w rest e;
+      limits = number-limited v o k a rest ha (number-limits v (unsignedCode v w)) (ap (withinReach (reachOf v)) e ∙ g);
+      small = rw (comparison-small o, mark-small k, ha) (low-small (cellSize v) (zerosAfter v) (unsignedCode v w));
     }
-  where
-    number-back : (v : ℕ) → inRange v ≡ true → wordOf (unsignedAt cellSize (numberBytes v ++ replicate 4 0) 0) ≡ v
-    number-back v r =
-        let l : v ≤ origin + reach = leb-true v (origin + reach) (and-right (leb (origin - reach) v) _ r) in
-        ap wordOf (low-value cellSize (wordOf v) (replicate 4 0) (omega arith)) ∙ word-back v (omega arith)
 
 -- ---- a list's 8 bytes
 

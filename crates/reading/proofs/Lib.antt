@@ -1,3 +1,4 @@
+pub mod VersionLaws
 pub mod Laws
 pub mod Operators
 pub mod Trees

@@ -5,7 +5,8 @@ use native.Mathlib.Nat.{add-assoc, pow-succ'}
 use native.Mathlib.Numerals.{add-one}
 use mathlib.Core.Path.{_≡_, refl}
 use mathlib.Core.List.{List, [], _∷_, _++_}
-use lib.ListN.{length, take}
+use lib.ListN.{length, take, drop}
+use lib.Seq.{getD-drop}
 use Rattle.reading.specs.Bytes.{byteAt, unsignedAt}
 use Rattle.reading.specs.Encoding.{lowBytes}
 
@@ -14,10 +15,18 @@ pub unsigned-next : (n b : ℕ) (s : List ℕ) (i : ℕ) → unsignedAt n (b ∷
 unsigned-next zero b s i = refl
 unsigned-next (suc n) b s i = rw (unsigned-next n b s (i + 1), add-one i)
 
--- eight bytes of a list, read one by one
+-- four bytes of a list, read one by one, and eight
+pub unsigned-four : (s : List ℕ) (i : ℕ) → unsignedAt 4 (byteAt s i ∷ byteAt s (i + 1) ∷ byteAt s (i + 2) ∷ byteAt s (i + 3) ∷ []) 0 ≡ unsignedAt 4 s i
+unsigned-four s i = simp add-assoc
+
 pub unsigned-eight : (s : List ℕ) (i : ℕ)
     → unsignedAt 8 (byteAt s i ∷ byteAt s (i + 1) ∷ byteAt s (i + 2) ∷ byteAt s (i + 3) ∷ byteAt s (i + 4) ∷ byteAt s (i + 5) ∷ byteAt s (i + 6) ∷ byteAt s (i + 7) ∷ []) 0 ≡ unsignedAt 8 s i
 unsigned-eight s i = simp add-assoc
+
+-- the number at a place, and that of the bytes from there on
+pub unsigned-drop : (n : ℕ) (s : List ℕ) (k i : ℕ) → unsignedAt n (drop k s) i ≡ unsignedAt n s (k + i)
+unsigned-drop zero s k i = refl
+unsigned-drop (suc n) s k i = rw (getD-drop k s i 0, unsigned-drop n s k (i + 1), add-assoc k i 1)
 
 -- n bytes are a number below 256 ^ n
 pub unsigned-bound : (n : ℕ) (s : List ℕ) (i : ℕ) → ((k : ℕ) → i ≤ k → k < i + n → byteAt s k ≤ 255) → unsignedAt n s i < 256 ^ n

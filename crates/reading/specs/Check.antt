@@ -5,9 +5,11 @@ use mathlib.Core.List.{List}
 use Rattle.algebra.specs.Lists.{if_then_else_}
 use Rattle.algebra.specs.Plans.{Tables}
 use Rattle.algebra.specs.Refusals.{refusal, need}
-use Rattle.reading.specs.TableSet.{readSet, amountOf, knownTables, tablesOf}
-use Rattle.reading.specs.Plan.{readPlan, nodesOf}
+use Rattle.reading.specs.TableSet.{readSetAs, amountOf, knownTables, tablesAs}
+use Rattle.reading.specs.Plan.{readPlanAs, nodesOf}
 use Rattle.reading.specs.Tree.{planOf, wholeTree}
+use Rattle.reading.specs.declared.version.Version.{Version}
+use Rattle.reading.specs.declared.version.Version.the-variants.{Second}
 use Rattle.reading.specs.declared.set.SetRead.{SetRead}
 use Rattle.reading.specs.declared.set.SetRead.the-variants.{Holds, Refused}
 use Rattle.reading.specs.declared.plan.PlanRead.{PlanRead}
@@ -36,17 +38,17 @@ orNext (suc number) next = suc number
 abbrev pub treeNumber : List ℕ → ℕ
 treeNumber plan = if wholeTree plan then 0 else 10
 
--- 6 to 14 of a plan over these tables
-abbrev pub refusalOver : Tables → List ℕ → ℕ
-refusalOver T plan = orNext (planNumber (readPlan plan)) (orNext (treeNumber plan) (refusal T (planOf plan)))
+-- 6 to 14 of a plan of version v over these tables
+abbrev pub refusalOverAs : Version → Tables → List ℕ → ℕ
+refusalOverAs v T plan = orNext (planNumber (readPlanAs v plan)) (orNext (treeNumber plan) (refusal T (planOf plan)))
 
--- .. over a set that is not turned back
-unfoldable pub planRefusal : List ℕ → List ℕ → ℕ
-planRefusal set plan = refusalOver (tablesOf set) plan
+-- .. over a set of version v that is not turned back
+unfoldable pub planRefusalAs : Version → List ℕ → List ℕ → ℕ
+planRefusalAs v set plan = refusalOverAs v (tablesAs v set) plan
 
 -- 1 to 14: the set before the plan
-unfoldable pub inputRefusal : List ℕ → List ℕ → ℕ
-inputRefusal set plan = orNext (setNumber (readSet set)) (planRefusal set plan)
+unfoldable pub inputRefusalAs : Version → List ℕ → List ℕ → ℕ
+inputRefusalAs v set plan = orNext (setNumber (readSetAs v set)) (planRefusalAs v set plan)
 
 -- ---- The answer
 
@@ -65,9 +67,28 @@ abbrev pub answer : ℕ → ℕ → ℕ → ℕ → Checked
 answer zero tables nodes cells = Accepted tables nodes cells
 answer (suc number) tables nodes cells = InputRefused (suc number)
 
-unfoldable pub checkOf : List ℕ → List ℕ → Checked
-checkOf set plan = answer (inputRefusal set plan) (amountOf (readSet set)) (nodesOf plan) (need (tablesOf set) (planOf plan))
+-- of a set and a plan of version v
+unfoldable pub checkAs : Version → List ℕ → List ℕ → Checked
+checkAs v set plan = answer (inputRefusalAs v set plan) (amountOf (readSetAs v set)) (nodesOf plan) (need (tablesAs v set) (planOf plan))
 
 -- The answer over a set that is known to have so many tables: 6 to 14 only, so that the set is read once for many plans.
-unfoldable pub checkOver : ℕ → List ℕ → List ℕ → Checked
-checkOver tables set plan = answer (refusalOver (knownTables tables set) plan) tables (nodesOf plan) (need (knownTables tables set) (planOf plan))
+unfoldable pub checkOverAs : Version → ℕ → List ℕ → List ℕ → Checked
+checkOverAs v tables set plan =
+    answer (refusalOverAs v (knownTables tables set) plan) tables (nodesOf plan) (need (knownTables tables set) (planOf plan))
+
+-- ---- What the calls meet and answer: version 2
+
+abbrev pub refusalOver : Tables → List ℕ → ℕ
+refusalOver T plan = refusalOverAs Second T plan
+
+abbrev pub planRefusal : List ℕ → List ℕ → ℕ
+planRefusal set plan = planRefusalAs Second set plan
+
+abbrev pub inputRefusal : List ℕ → List ℕ → ℕ
+inputRefusal set plan = inputRefusalAs Second set plan
+
+abbrev pub checkOf : List ℕ → List ℕ → Checked
+checkOf set plan = checkAs Second set plan
+
+abbrev pub checkOver : ℕ → List ℕ → List ℕ → Checked
+checkOver tables set plan = checkOverAs Second tables set plan

@@ -1,13 +1,15 @@
--- The bytes of a plan's tree (docs/DEFINITION.md, "The plan's bytes"). Definitions only.
-use Prim.Native.Nat.{ℕ, zero, suc, _+_, _/_, _%_}
+-- The bytes of a plan's tree, in each version (docs/DEFINITION.md, "The plan's bytes"). Definitions only.
+use Prim.Native.Nat.{ℕ, zero, suc, _+_, _-_, _/_, _%_}
 use mathlib.Core.Bool.{Bool, true, false}
 use mathlib.Core.List.{List, [], _∷_, _++_}
 use lib.ListN.{length, take, replicate}
 use Rattle.algebra.specs.Lists.{flatMap}
-use Rattle.algebra.specs.Cells.{Comparison, eq, ne, lt, le, gt, ge, sum, least, greatest, Aggregate, count, over}
+use Rattle.algebra.specs.Cells.{Comparison, eq, ne, lt, le, gt, ge, sum, least, greatest, Aggregate, count, over, withinReach}
 use Rattle.algebra.specs.Plans.{always, columnsOf, numberOf, Test, test, Leaf, unit, scan, Unary, select, project, distinct, group, sort, Binary, cross, semi, quant, fold, each, pair, Plan}
 use Rattle.algebra.specs.Places.{Operator, leafNode, unaryNode, binaryNode, size, flatten}
-use Rattle.reading.specs.TableSet.{cellSize, wordOf}
+use Rattle.reading.specs.Versions.{cellSize, nodeSize, testSize, reachOf, unsignedCode}
+use Rattle.reading.specs.declared.version.Version.{Version}
+use Rattle.reading.specs.declared.version.Version.the-variants.{Second}
 use Rattle.reading.specs.Plan.{planMark}
 
 abbrev pub comparisonByte : Comparison → ℕ
@@ -38,18 +40,18 @@ abbrev pub lowBytes : ℕ → ℕ → List ℕ
 lowBytes zero x = []
 lowBytes (suc n) x = x % 256 ∷ lowBytes n (x / 256)
 
--- the bytes of a number that is held as a cell: its code, low byte first. A code is its cell plus 2 ^ 63, without the carry.
-abbrev pub numberBytes : ℕ → List ℕ
-numberBytes w = lowBytes cellSize (wordOf w)
+-- the bytes of a number that is held as a cell: its code, low byte first
+abbrev pub numberBytes : Version → ℕ → List ℕ
+numberBytes v w = lowBytes (cellSize v) (unsignedCode v w)
 
--- bytes 16 to 31: the form, the comparison, the not-mark and the left column; then the right column or the number, and zeros
-abbrev pub testBytes : Test → List ℕ
-testBytes (test m always) = 0 ∷ 0 ∷ markByte m ∷ 0 ∷ replicate 12 0
-testBytes (test m (columnsOf c l r)) = 1 ∷ comparisonByte c ∷ markByte m ∷ l ∷ r ∷ replicate 11 0
-testBytes (test m (numberOf c l w)) = 2 ∷ comparisonByte c ∷ markByte m ∷ l ∷ (numberBytes w ++ replicate 4 0)
+-- bytes 16 on: the form, the comparison, the not-mark and the left column; then the right column or the number, and zeros to the node's end
+abbrev pub testBytes : Version → Test → List ℕ
+testBytes v (test m always) = 0 ∷ 0 ∷ markByte m ∷ 0 ∷ replicate (testSize v - 4) 0
+testBytes v (test m (columnsOf c l r)) = 1 ∷ comparisonByte c ∷ markByte m ∷ l ∷ r ∷ replicate (testSize v - 5) 0
+testBytes v (test m (numberOf c l w)) = 2 ∷ comparisonByte c ∷ markByte m ∷ l ∷ (numberBytes v w ++ replicate (testSize v - 4 - cellSize v) 0)
 
-abbrev pub noTest : List ℕ
-noTest = replicate 16 0
+abbrev pub noTest : Version → List ℕ
+noTest v = replicate (testSize v) 0
 
 -- bytes 8 to 15
 abbrev pub listBytes : List ℕ → List ℕ
@@ -62,32 +64,66 @@ fieldBytes kind arg id left right comparison column = kind ∷ arg ∷ id ∷ le
 abbrev pub plainBytes : ℕ → List ℕ → List ℕ → List ℕ
 plainBytes kind list bytes = fieldBytes kind 0 0 0 0 0 0 ++ (list ++ bytes)
 
-abbrev pub leafBytes : Leaf → List ℕ
-leafBytes unit = plainBytes 0 (listBytes []) noTest
-leafBytes (scan t n) = fieldBytes 1 t n 0 0 0 0 ++ (listBytes [] ++ noTest)
+abbrev pub leafBytes : Version → Leaf → List ℕ
+leafBytes v unit = plainBytes 0 (listBytes []) (noTest v)
+leafBytes v (scan t n) = fieldBytes 1 t n 0 0 0 0 ++ (listBytes [] ++ noTest v)
 
-abbrev pub unaryBytes : Unary → List ℕ
-unaryBytes (select t) = plainBytes 2 (listBytes []) (testBytes t)
-unaryBytes (project ids) = plainBytes 3 (listBytes ids) noTest
-unaryBytes (distinct ids) = plainBytes 4 (listBytes ids) noTest
-unaryBytes (group g n l r c t) = fieldBytes 13 (aggregateByte g) n l r (comparisonByte c) (columnByte g) ++ (listBytes [] ++ testBytes t)
-unaryBytes (sort d ids) = fieldBytes 14 (markByte d) 0 0 0 0 0 ++ (listBytes ids ++ noTest)
+abbrev pub unaryBytes : Version → Unary → List ℕ
+unaryBytes v (select t) = plainBytes 2 (listBytes []) (testBytes v t)
+unaryBytes v (project ids) = plainBytes 3 (listBytes ids) (noTest v)
+unaryBytes v (distinct ids) = plainBytes 4 (listBytes ids) (noTest v)
+unaryBytes v (group g n l r c t) = fieldBytes 13 (aggregateByte g) n l r (comparisonByte c) (columnByte g) ++ (listBytes [] ++ testBytes v t)
+unaryBytes v (sort d ids) = fieldBytes 14 (markByte d) 0 0 0 0 0 ++ (listBytes ids ++ noTest v)
 
 -- Semi 6, Anti 7; Some 8, Every 9
-abbrev pub binaryBytes : Binary → List ℕ
-binaryBytes cross = plainBytes 5 (listBytes []) noTest
-binaryBytes (semi m l r t) = fieldBytes (6 + markByte m) 0 0 l r 0 0 ++ (listBytes [] ++ testBytes t)
-binaryBytes (quant m t) = plainBytes (8 + markByte m) (listBytes []) (testBytes t)
-binaryBytes (fold g n t) = fieldBytes 10 (aggregateByte g) n 0 0 0 (columnByte g) ++ (listBytes [] ++ testBytes t)
-binaryBytes each = plainBytes 11 (listBytes []) noTest
-binaryBytes (pair g n l r c t) = fieldBytes 12 (aggregateByte g) n l r (comparisonByte c) (columnByte g) ++ (listBytes [] ++ testBytes t)
+abbrev pub binaryBytes : Version → Binary → List ℕ
+binaryBytes v cross = plainBytes 5 (listBytes []) (noTest v)
+binaryBytes v (semi m l r t) = fieldBytes (6 + markByte m) 0 0 l r 0 0 ++ (listBytes [] ++ testBytes v t)
+binaryBytes v (quant m t) = plainBytes (8 + markByte m) (listBytes []) (testBytes v t)
+binaryBytes v (fold g n t) = fieldBytes 10 (aggregateByte g) n 0 0 0 (columnByte g) ++ (listBytes [] ++ testBytes v t)
+binaryBytes v each = plainBytes 11 (listBytes []) (noTest v)
+binaryBytes v (pair g n l r c t) = fieldBytes 12 (aggregateByte g) n l r (comparisonByte c) (columnByte g) ++ (listBytes [] ++ testBytes v t)
 
--- a node's 32 bytes
-unfoldable pub nodeBytes : Operator → List ℕ
-nodeBytes (leafNode x) = leafBytes x
-nodeBytes (unaryNode u) = unaryBytes u
-nodeBytes (binaryNode b) = binaryBytes b
+-- a node's bytes
+unfoldable pub nodeBytesAs : Version → Operator → List ℕ
+nodeBytesAs v (leafNode x) = leafBytes v x
+nodeBytesAs v (unaryNode u) = unaryBytes v u
+nodeBytesAs v (binaryNode b) = binaryBytes v b
 
--- letters RPT, version 2, the node count, the nodes in pre-order
-unfoldable pub planBytes : Plan → List ℕ
-planBytes p = planMark ++ (size p ∷ flatMap nodeBytes (flatten p))
+-- letters RPT, the version, the node count, the nodes in pre-order
+unfoldable pub planBytesAs : Version → Plan → List ℕ
+planBytesAs v p = planMark v ++ (size p ∷ flatMap (nodeBytesAs v) (flatten p))
+
+-- what the calls write
+abbrev pub nodeBytes : Operator → List ℕ
+nodeBytes op = nodeBytesAs Second op
+
+abbrev pub planBytes : Plan → List ℕ
+planBytes p = planBytesAs Second p
+
+-- ---- What can be written in a version: the number of every test is in its range
+
+abbrev pub testWithin : Version → Test → Bool
+testWithin v (test m always) = true
+testWithin v (test m (columnsOf c l r)) = true
+testWithin v (test m (numberOf c l w)) = withinReach (reachOf v) w
+
+abbrev pub unaryWithin : Version → Unary → Bool
+unaryWithin v (select t) = testWithin v t
+unaryWithin v (project ids) = true
+unaryWithin v (distinct ids) = true
+unaryWithin v (group g n l r c t) = testWithin v t
+unaryWithin v (sort d ids) = true
+
+abbrev pub binaryWithin : Version → Binary → Bool
+binaryWithin v cross = true
+binaryWithin v (semi m l r t) = testWithin v t
+binaryWithin v (quant m t) = testWithin v t
+binaryWithin v (fold g n t) = testWithin v t
+binaryWithin v each = true
+binaryWithin v (pair g n l r c t) = testWithin v t
+
+unfoldable pub operatorWithin : Version → Operator → Bool
+operatorWithin v (leafNode x) = true
+operatorWithin v (unaryNode u) = unaryWithin v u
+operatorWithin v (binaryNode b) = binaryWithin v b

@@ -1,4 +1,5 @@
 pub mod Bytes
+pub mod Versions
 pub mod TableSet
 pub mod Plan
 pub mod Tree

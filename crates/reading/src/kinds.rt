@@ -157,7 +157,7 @@ pub(crate) const KIND_TABLE: [u8; 150] = [
     0,
 ];
 
-// The largest value of each of a test's bytes: no test, then the three forms.
+// The largest value of each of a test's bytes: no test, then the three forms. A test of version 1 has the first 8 of a row.
 pub(crate) const TEST_LIMITS: [u8; 64] = [
     0,
     0,

@@ -14,4 +14,5 @@ pub mod plan;
 pub mod scan;
 pub mod set;
 pub mod tree;
+pub mod version;
 pub mod view;

@@ -2,7 +2,8 @@
 ghost use mathlib.Core.Path.{_≡_};
 ghost use Prim.Native.Nat.{_+_, _*_, _≤_, _<_};
 ghost use lib.ListN.{length, drop};
-ghost use Rattle.reading.specs.Plan.{kindTable, testNumber, limited, listAllowed, listEnds, testAllowed, countAllowed, fieldsAllowed, nodePart, testOf, nodeOf, nodeAt, nodesAllowed, readPlan};
+ghost use Rattle.reading.specs.Plan.{kindTable, testNumber, limited, listAllowed, listEnds, testAllowed, countAllowed, fieldsAllowed, nodePart, testOf, nodeOf, nodeAt, planMark, nodesAllowed, readPlanAs};
+ghost use Rattle.reading.specs.Versions.{nodeSize};
 use crate::bytes::byte_at;
 use crate::bytes::head;
 use crate::bytes::starts_with;
@@ -10,9 +11,16 @@ use crate::bytes::tail;
 use crate::kinds::KIND_TABLE;
 use crate::kinds::TEST_LIMITS;
 use crate::kinds::kind_entry;
-use crate::set::number_word;
+use crate::set::number_as;
 use crate::set::word;
+use crate::set::word_of_four;
+use crate::version::Version;
+use crate::version::node_size;
+use crate::version::nodes_in;
+use crate::version::version_at;
 
+const FIRST_MARK: [u8; 5] = [82, 80, 84, 1, 0];
+// The mark of a version 2 plan.
 pub const PLAN_MARK: [u8; 5] = [82, 80, 84, 2, 0];
 
 // What reading a plan gives: how many nodes it has, or a refusal's number.
@@ -50,7 +58,7 @@ pub struct Node {
     pub test: Test,
 }
 
-// ---- The fields of a node's 32 bytes
+// ---- The fields of a node's bytes
 
 // Whether each of the first n bytes is at most its limit.
 fn bytes_within(n: usize, bytes: &[u8], limits: &[u8]) -> bool
@@ -111,39 +119,48 @@ fn list_allowed(has: u8, node: &[u8]) -> bool
     list_ends(node, listed)
 }
 
-fn test_number(node: &[u8]) -> u64
-    ensures { λ r. ⌜ r ≡ testNumber (now (node .entry)) ⌝ }
+// The number that a test compares with, as a cell's word.
+fn test_number(version: Version, node: &[u8]) -> u64
+    ensures { λ r. ⌜ r ≡ testNumber version (now (node .entry)) ⌝ }
 {
-    word(
-        byte_at(node, 20),
-        byte_at(node, 21),
-        byte_at(node, 22),
-        byte_at(node, 23),
-        byte_at(node, 24),
-        byte_at(node, 25),
-        byte_at(node, 26),
-        byte_at(node, 27),
-    )
+    let b0 = byte_at(node, 20);
+    let b1 = byte_at(node, 21);
+    let b2 = byte_at(node, 22);
+    let b3 = byte_at(node, 23);
+    match version {
+        Version::First => word_of_four(b0, b1, b2, b3),
+        Version::Second => word(
+            b0,
+            b1,
+            b2,
+            b3,
+            byte_at(node, 24),
+            byte_at(node, 25),
+            byte_at(node, 26),
+            byte_at(node, 27),
+        ),
+    }
 }
 
-fn test_allowed(has: u8, node: &[u8]) -> bool
-    ensures { λ r. ⌜ r ≡ testAllowed has (now (node .entry)) ⌝ }
+fn test_allowed(version: Version, has: u8, node: &[u8]) -> bool
+    ensures { λ r. ⌜ r ≡ testAllowed version has (now (node .entry)) ⌝ }
 {
     let form = byte_at(node, 16) as usize;
     let limits = TEST_LIMITS;
     let row = if has == 0 { 0 } else { 16 * (1 + form) };
-    if !bytes_within(16, tail(node, 16), tail(&limits, row)) {
+    let size = node_size(version) - 16;
+    if !bytes_within(size, tail(node, 16), tail(&limits, row)) {
         return false;
     }
     if form != 2 {
         return true;
     }
-    number_word(test_number(node))
+    number_as(version, test_number(version, node))
 }
 
 // Whether every field of a node is one that its kind lists, in its range.
-fn fields_allowed(node: &[u8]) -> bool
-    ensures { λ r. ⌜ r ≡ fieldsAllowed (now (node .entry)) ⌝ }
+fn fields_allowed(version: Version, node: &[u8]) -> bool
+    ensures { λ r. ⌜ r ≡ fieldsAllowed version (now (node .entry)) ⌝ }
 {
     let kind = byte_at(node, 0) as usize;
     if 15 <= kind {
@@ -158,27 +175,28 @@ fn fields_allowed(node: &[u8]) -> bool
     if !list_allowed(kind_entry(kind, 8), node) {
         return false;
     }
-    test_allowed(kind_entry(kind, 9), node)
+    test_allowed(version, kind_entry(kind, 9), node)
 }
 
 // ---- The nodes
 
-// The 32 bytes of node i, as a part of the plan.
+// The bytes of node i, as a part of the plan, whose header says its version.
 fn node_part(plan: &[u8], i: usize) -> &[u8]
     requires { ⌜ i < 64 ⌝ }
     ensures { λ r. ⌜ now r ≡ nodePart (now (plan .entry)) i ⌝ }
 {
-    let at = 6 + 32 * i;
-    head(tail(plan, at), 32)
+    let size = node_size(version_at(plan));
+    let at = 6 + size * i;
+    head(tail(plan, at), size)
 }
 
-fn nodes_allowed(n: usize, plan: &[u8]) -> bool
+fn nodes_allowed(version: Version, n: usize, plan: &[u8]) -> bool
     requires { ⌜ n ≤ 64 ⌝ }
-    ensures { λ r. ⌜ r ≡ nodesAllowed n (now (plan .entry)) ⌝ }
+    ensures { λ r. ⌜ r ≡ nodesAllowed version n (now (plan .entry)) ⌝ }
 {
     let mut i = 0;
     while i < n {
-        if !fields_allowed(node_part(plan, i)) {
+        if !fields_allowed(version, node_part(plan, i)) {
             return false;
         }
         i += 1;
@@ -186,14 +204,23 @@ fn nodes_allowed(n: usize, plan: &[u8]) -> bool
     true
 }
 
-// Reads the plan's bytes: its header, and each node's fields.
-pub fn read_plan(plan: &[u8]) -> PlanRead
-    ensures { λ r. ⌜ r ≡ readPlan (now (plan .entry)) ⌝ }
+fn plan_mark(version: Version) -> [u8; 5]
+    ensures { λ r. ⌜ r ≡ planMark version ⌝ }
+{
+    match version {
+        Version::First => FIRST_MARK,
+        Version::Second => PLAN_MARK,
+    }
+}
+
+// Reads the plan's bytes as this version's: its header, and each node's fields.
+pub fn read_plan(version: Version, plan: &[u8]) -> PlanRead
+    ensures { λ r. ⌜ r ≡ readPlanAs version (now (plan .entry)) ⌝ }
 {
     if plan.len() < 6 {
         return PlanRead::Refused(6);
     }
-    let mark = PLAN_MARK;
+    let mark = plan_mark(version);
     if !starts_with(plan, &mark) {
         return PlanRead::Refused(7);
     }
@@ -204,10 +231,10 @@ pub fn read_plan(plan: &[u8]) -> PlanRead
     if 64 < n {
         return PlanRead::Refused(8);
     }
-    if plan.len() != 6 + 32 * n {
+    if plan.len() != 6 + node_size(version) * n {
         return PlanRead::Refused(6);
     }
-    if !nodes_allowed(n, plan) {
+    if !nodes_allowed(version, n, plan) {
         return PlanRead::Refused(9);
     }
     PlanRead::Nodes(n)
@@ -215,9 +242,9 @@ pub fn read_plan(plan: &[u8]) -> PlanRead
 
 // ---- A node's value
 
-fn test_of(node: &[u8]) -> Test
-    requires { ⌜ length (now node) ≡ 32 ⌝ }
-    ensures { λ r. ⌜ r ≡ testOf (now (node .entry)) ⌝ }
+fn test_of(version: Version, node: &[u8]) -> Test
+    requires { ⌜ 24 ≤ length (now node) ⌝ }
+    ensures { λ r. ⌜ r ≡ testOf version (now (node .entry)) ⌝ }
 {
     let form = node[16];
     if form == 0 {
@@ -233,15 +260,15 @@ fn test_of(node: &[u8]) -> Test
     Test::Number {
         comparison: node[17],
         left: node[19],
-        number: test_number(node),
+        number: test_number(version, node),
     }
 }
 
-fn node_of(node: &[u8]) -> Node
-    requires { ⌜ length (now node) ≡ 32 ⌝ }
-    ensures { λ r. ⌜ r ≡ nodeOf (now (node .entry)) ⌝ }
+fn node_of(version: Version, node: &[u8]) -> Node
+    requires { ⌜ 24 ≤ length (now node) ⌝ }
+    ensures { λ r. ⌜ r ≡ nodeOf version (now (node .entry)) ⌝ }
 {
-    let test = test_of(node);
+    let test = test_of(version, node);
     let list = [
         node[9],
         node[10],
@@ -270,11 +297,13 @@ fn node_of(node: &[u8]) -> Node
 pub fn node_at(plan: &[u8], i: usize) -> Node
     ensures { λ r. ⌜ r ≡ nodeAt (now (plan .entry)) i ⌝ }
 {
-    if i < plan.len() / 32 {
-        let at = 6 + 32 * i;
-        let end = at + 32;
+    let version = version_at(plan);
+    if i < nodes_in(version, plan.len()) {
+        let size = node_size(version);
+        let at = 6 + size * i;
+        let end = at + size;
         if end <= plan.len() {
-            return node_of(&plan[at..end]);
+            return node_of(version, &plan[at..end]);
         }
     }
     Node {

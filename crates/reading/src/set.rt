@@ -3,13 +3,18 @@ ghost use mathlib.Core.Path.{_≡_};
 ghost use Prim.Native.Nat.{_+_, _*_, _≤_};
 ghost use lib.ListN.{length, drop};
 ghost use mathlib.Core.List.{[], _∷_};
-ghost use Rattle.algebra.specs.Cells.{inRange};
+ghost use Rattle.algebra.specs.Cells.{inRange, withinReach};
 ghost use Rattle.reading.specs.Bytes.{unsignedAt};
-ghost use Rattle.reading.specs.TableSet.{columnsOf, rowsOf, cellBytes, cellsOf, wordOf, cellAt, cellAllowed, cellsAllowed, sizeAllowed, readTable, readSet, tableFrom};
+ghost use Rattle.reading.specs.Versions.{reachOf, wordOf};
+ghost use Rattle.reading.specs.declared.version.Version.the-variants.{First, Second};
+ghost use Rattle.reading.specs.TableSet.{tableMark, columnsOf, rowsOf, cellBytes, cellsOf, cellAt, cellAllowed, cellsAllowed, sizeAllowed, readTable, readSetAs, tableFrom};
 use crate::bytes::byte_at;
 use crate::bytes::head;
 use crate::bytes::starts_with;
 use crate::bytes::tail;
+use crate::version::Version;
+use crate::version::cell_size;
+use crate::version::version_at;
 
 // What reading a set gives: how many tables it has, or a refusal's number.
 pub enum SetRead {
@@ -23,7 +28,9 @@ pub enum TableRead {
     Bad(u8),
 }
 
-const TABLE_MARK: [u8; 5] = [84, 66, 76, 2, 0];
+const FIRST_MARK: [u8; 5] = [84, 66, 76, 1, 0];
+
+const SECOND_MARK: [u8; 5] = [84, 66, 76, 2, 0];
 
 // ---- Cells
 
@@ -34,9 +41,27 @@ fn four_bytes(b0: u8, b1: u8, b2: u8, b3: u8) -> u64
     b0 as u64 + 256 * (b1 as u64 + 256 * (b2 as u64 + 256 * (b3 as u64)))
 }
 
-// The word of a cell's eight bytes: its signed code plus 2^63.
+// The word of a version 1 cell's four bytes: its number plus 2^63, 0 for blank, 2^64 - 1 for off scale.
+pub fn word_of_four(b0: u8, b1: u8, b2: u8, b3: u8) -> u64
+    ensures { λ r. ⌜ r ≡ wordOf First (unsignedAt 4 (b0 ∷ b1 ∷ b2 ∷ b3 ∷ []) 0) ⌝ }
+{
+    let x = four_bytes(b0, b1, b2, b3);
+    if x == 2147483648 {
+        return 0;
+    }
+    if x == 2147483647 {
+        return 18446744073709551615;
+    }
+    if x < 2147483648 {
+        x + 9223372036854775808
+    } else {
+        x + 9223372032559808512
+    }
+}
+
+// The word of a version 2 cell's eight bytes: its signed code plus 2^63.
 pub fn word(b0: u8, b1: u8, b2: u8, b3: u8, b4: u8, b5: u8, b6: u8, b7: u8) -> u64
-    ensures { λ r. ⌜ r ≡ wordOf (unsignedAt 8 (b0 ∷ b1 ∷ b2 ∷ b3 ∷ b4 ∷ b5 ∷ b6 ∷ b7 ∷ []) 0) ⌝ }
+    ensures { λ r. ⌜ r ≡ wordOf Second (unsignedAt 8 (b0 ∷ b1 ∷ b2 ∷ b3 ∷ b4 ∷ b5 ∷ b6 ∷ b7 ∷ []) 0) ⌝ }
 {
     let x = four_bytes(b0, b1, b2, b3) + 4294967296 * four_bytes(b4, b5, b6, b7);
     if x < 9223372036854775808 {
@@ -46,9 +71,21 @@ pub fn word(b0: u8, b1: u8, b2: u8, b3: u8, b4: u8, b5: u8, b6: u8, b7: u8) -> u
     }
 }
 
-// The word of cell i of a table's cells; past the last cell it is blank, 0.
-pub fn cell(cells: &[u8], i: usize) -> u64
-    ensures { λ r. ⌜ r ≡ cellAt (now (cells .entry)) i ⌝ }
+// The word of cell i of a version 1 table's cells; past the last cell it is blank, 0.
+fn first_cell(cells: &[u8], i: usize) -> u64
+    ensures { λ r. ⌜ r ≡ cellAt First (now (cells .entry)) i ⌝ }
+{
+    if i < cells.len() / 4 {
+        let at = 4 * i;
+        word_of_four(cells[at], cells[at + 1], cells[at + 2], cells[at + 3])
+    } else {
+        0
+    }
+}
+
+// .. of a version 2 table's cells.
+fn second_cell(cells: &[u8], i: usize) -> u64
+    ensures { λ r. ⌜ r ≡ cellAt Second (now (cells .entry)) i ⌝ }
 {
     if i < cells.len() / 8 {
         let at = 8 * i;
@@ -67,7 +104,16 @@ pub fn cell(cells: &[u8], i: usize) -> u64
     }
 }
 
-// Whether a word is that of a number in the cell range.
+pub fn cell(version: Version, cells: &[u8], i: usize) -> u64
+    ensures { λ r. ⌜ r ≡ cellAt version (now (cells .entry)) i ⌝ }
+{
+    match version {
+        Version::First => first_cell(cells, i),
+        Version::Second => second_cell(cells, i),
+    }
+}
+
+// Whether a word is that of a number in version 2's range.
 pub fn number_word(w: u64) -> bool
     ensures { λ r. ⌜ r ≡ inRange w ⌝ }
 {
@@ -77,9 +123,24 @@ pub fn number_word(w: u64) -> bool
     w <= 9232372036854775808
 }
 
-// Blank, off scale, or a number in the cell range.
-fn cell_allowed(w: u64) -> bool
-    ensures { λ r. ⌜ r ≡ cellAllowed w ⌝ }
+// Whether a word is that of a number in the version's range.
+pub fn number_as(version: Version, w: u64) -> bool
+    ensures { λ r. ⌜ r ≡ withinReach (reachOf version) w ⌝ }
+{
+    match version {
+        Version::First => {
+            if w < 9223372034854775808 {
+                return false;
+            }
+            w <= 9223372038854775808
+        }
+        Version::Second => number_word(w),
+    }
+}
+
+// Blank, off scale, or a number in the version's range.
+fn cell_allowed(version: Version, w: u64) -> bool
+    ensures { λ r. ⌜ r ≡ cellAllowed version w ⌝ }
 {
     if w == 0 {
         return true;
@@ -87,17 +148,17 @@ fn cell_allowed(w: u64) -> bool
     if w == 18446744073709551615 {
         return true;
     }
-    number_word(w)
+    number_as(version, w)
 }
 
-// Whether each of a table's cells has an allowed code.
-fn cells_allowed(cells: &[u8]) -> bool
-    ensures { λ r. ⌜ r ≡ cellsAllowed (now (cells .entry)) ⌝ }
+// Whether each of a version 1 table's cells has an allowed code. Each version has its loop, so that no cell asks for the version.
+fn first_cells_allowed(cells: &[u8]) -> bool
+    ensures { λ r. ⌜ r ≡ cellsAllowed First (now (cells .entry)) ⌝ }
 {
-    let n = cells.len() / 8;
+    let n = cells.len() / 4;
     let mut i = 0;
     while i < n {
-        if !cell_allowed(cell(cells, i)) {
+        if !cell_allowed(Version::First, first_cell(cells, i)) {
             return false;
         }
         i += 1;
@@ -105,7 +166,39 @@ fn cells_allowed(cells: &[u8]) -> bool
     true
 }
 
-// ---- A table, as the bytes from its first one on
+fn second_cells_allowed(cells: &[u8]) -> bool
+    ensures { λ r. ⌜ r ≡ cellsAllowed Second (now (cells .entry)) ⌝ }
+{
+    let n = cells.len() / 8;
+    let mut i = 0;
+    while i < n {
+        if !cell_allowed(Version::Second, second_cell(cells, i)) {
+            return false;
+        }
+        i += 1;
+    }
+    true
+}
+
+fn cells_allowed(version: Version, cells: &[u8]) -> bool
+    ensures { λ r. ⌜ r ≡ cellsAllowed version (now (cells .entry)) ⌝ }
+{
+    match version {
+        Version::First => first_cells_allowed(cells),
+        Version::Second => second_cells_allowed(cells),
+    }
+}
+
+// ---- A table, as the bytes from its first one on; its header says its version
+
+fn table_mark(version: Version) -> [u8; 5]
+    ensures { λ r. ⌜ r ≡ tableMark version ⌝ }
+{
+    match version {
+        Version::First => FIRST_MARK,
+        Version::Second => SECOND_MARK,
+    }
+}
 
 pub fn columns_of(table: &[u8]) -> usize
     ensures { λ r. ⌜ r ≡ columnsOf (now (table .entry)) ⌝ }
@@ -125,7 +218,8 @@ fn cell_bytes(table: &[u8]) -> usize
     ensures { λ r. ⌜ r ≡ cellBytes (now (table .entry)) ⌝ }
     ensures { λ r. ⌜ r ≤ 133691400 ⌝ }
 {
-    8 * (columns_of(table) * rows_of(table))
+    let size = cell_size(version_at(table));
+    size * (columns_of(table) * rows_of(table))
 }
 
 fn size_allowed(table: &[u8]) -> bool
@@ -141,16 +235,16 @@ fn size_allowed(table: &[u8]) -> bool
     rows_of(table) <= 1000
 }
 
-// Reads the table that starts at a place of the set.
-fn read_table(set: &[u8], at: usize) -> TableRead
+// Reads the table that starts at a place of the set, as this version's.
+fn read_table(version: Version, set: &[u8], at: usize) -> TableRead
     requires { ⌜ at ≤ length (now set) ⌝ }
-    ensures { λ r. ⌜ r ≡ readTable (drop at (now (set .entry))) ⌝ }
+    ensures { λ r. ⌜ r ≡ readTable version (drop at (now (set .entry))) ⌝ }
 {
     let table = &set[at..];
     if table.len() < 8 {
         return TableRead::Bad(1);
     }
-    let mark = TABLE_MARK;
+    let mark = table_mark(version);
     if !starts_with(table, &mark) {
         return TableRead::Bad(2);
     }
@@ -163,7 +257,7 @@ fn read_table(set: &[u8], at: usize) -> TableRead
     }
     let a = at + 8;
     let b = at + size;
-    if !cells_allowed(&set[a..b]) {
+    if !cells_allowed(version, &set[a..b]) {
         return TableRead::Bad(4);
     }
     TableRead::Whole(size)
@@ -171,9 +265,9 @@ fn read_table(set: &[u8], at: usize) -> TableRead
 
 // ---- The set
 
-// Reads the whole set. Each table starts where the last one ended.
-pub fn read_set(set: &[u8]) -> SetRead
-    ensures { λ r. ⌜ r ≡ readSet (now (set .entry)) ⌝ }
+// Reads the whole set as this version's. Each table starts where the last one ended.
+pub fn read_set(version: Version, set: &[u8]) -> SetRead
+    ensures { λ r. ⌜ r ≡ readSetAs version (now (set .entry)) ⌝ }
 {
     let mut at = 0;
     let mut found = 0;
@@ -181,7 +275,7 @@ pub fn read_set(set: &[u8]) -> SetRead
         if found == 8 {
             return SetRead::Refused(5);
         }
-        match read_table(set, at) {
+        match read_table(version, set, at) {
             TableRead::Bad(number) => {
                 return SetRead::Refused(number);
             }

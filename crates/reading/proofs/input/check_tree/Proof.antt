@@ -57,7 +57,7 @@ whole-tree-requires c κs = search needs
 returns : tie.Need-returns
 returns c =
     let a = c .before .before .before .before .args in
-    sym (check-tree (a .set .now) (a .plan .now) (a .tables) (a .nodes) (c .before .before .before .before .pre) (sym (c .before .whole-tree .ensures) ∙ not-true _ (c .if1 .taken)))
+    sym (check-tree (a .version) (a .set .now) (a .plan .now) (a .tables) (a .nodes) (c .before .before .before .before .pre) (sym (c .before .whole-tree .ensures) ∙ not-true _ (c .if1 .taken)))
 
 -- src/input.rt:36:9
 tables-found-requires : tie.Need-tables-found-requires
@@ -67,7 +67,7 @@ tables-found-requires c κs = search needs
 returns-2 : tie.Need-returns-2
 returns-2 c =
     let a = c .before .before .before .before .before .before .args in
-    sym (check-11 (a .set .now) (a .plan .now) (a .tables) (a .nodes) (c .before .before .before .before .before .before .pre) (whole (c .before .before)) (sym (found-is (c .before)) ∙ not-true _ (c .if2 .taken)))
+    sym (check-11 (a .version) (a .set .now) (a .plan .now) (a .tables) (a .nodes) (c .before .before .before .before .before .before .pre) (whole (c .before .before)) (sym (found-is (c .before)) ∙ not-true _ (c .if2 .taken)))
 
 -- src/input.rt:39:9
 ids-once-requires : tie.Need-ids-once-requires
@@ -77,7 +77,7 @@ ids-once-requires c κs = search needs
 returns-3 : tie.Need-returns-3
 returns-3 c =
     let a = c .before .before .before .before .before .before .before .before .args in
-    sym (check-12-once (a .set .now) (a .plan .now) (a .tables) (a .nodes) (c .before .before .before .before .before .before .before .before .pre) (whole (c .before .before .before .before)) (found-all (c .before .before)) (sym (c .before .ids-once .ensures) ∙ not-true _ (c .if3 .taken)))
+    sym (check-12-once (a .version) (a .set .now) (a .plan .now) (a .tables) (a .nodes) (c .before .before .before .before .before .before .before .before .pre) (whole (c .before .before .before .before)) (found-all (c .before .before)) (sym (c .before .ids-once .ensures) ∙ not-true _ (c .if3 .taken)))
 
 -- src/input.rt:42:9
 tree-seen-requires : tie.Need-tree-seen-requires
@@ -87,7 +87,7 @@ tree-seen-requires c κs = search needs
 returns-4 : tie.Need-returns-4
 returns-4 c =
     let a = c .before .before .before .before .before .before .before .before .before .before .args in
-    sym (check-12-view (a .set .now) (a .plan .now) (a .tables) (a .nodes) (c .before .before .before .before .before .before .before .before .before .before .pre) (whole (c .before .before .before .before .before .before)) (found-all (c .before .before .before .before)) (once-all (c .before .before)) (sym (seen-is (c .before)) ∙ not-true _ (c .if4 .taken)))
+    sym (check-12-view (a .version) (a .set .now) (a .plan .now) (a .tables) (a .nodes) (c .before .before .before .before .before .before .before .before .before .before .pre) (whole (c .before .before .before .before .before .before)) (found-all (c .before .before .before .before)) (once-all (c .before .before)) (sym (seen-is (c .before)) ∙ not-true _ (c .if4 .taken)))
 
 -- src/input.rt:45:9
 rows-narrow-requires : tie.Need-rows-narrow-requires
@@ -97,7 +97,7 @@ rows-narrow-requires c κs = search needs
 returns-5 : tie.Need-returns-5
 returns-5 c =
     let a = c .before .before .before .before .before .before .before .before .before .before .before .before .args in
-    sym (check-13 (a .set .now) (a .plan .now) (a .tables) (a .nodes) (c .before .before .before .before .before .before .before .before .before .before .before .before .pre) (whole (c .before .before .before .before .before .before .before .before)) (found-all (c .before .before .before .before .before .before)) (once-all (c .before .before .before .before)) (seen-all (c .before .before)) (sym (c .before .rows-narrow .ensures) ∙ not-true _ (c .if5 .taken)))
+    sym (check-13 (a .version) (a .set .now) (a .plan .now) (a .tables) (a .nodes) (c .before .before .before .before .before .before .before .before .before .before .before .before .pre) (whole (c .before .before .before .before .before .before .before .before)) (found-all (c .before .before .before .before .before .before)) (once-all (c .before .before .before .before)) (seen-all (c .before .before)) (sym (c .before .rows-narrow .ensures) ∙ not-true _ (c .if5 .taken)))
 
 -- src/input.rt:48:9
 bounds-low-requires : tie.Need-bounds-low-requires
@@ -107,7 +107,7 @@ bounds-low-requires c κs = search needs
 returns-6 : tie.Need-returns-6
 returns-6 c =
     let a = c .before .before .before .before .before .before .before .before .before .before .before .before .before .before .args in
-    sym (check-14 (a .set .now) (a .plan .now) (a .tables) (a .nodes) (c .before .before .before .before .before .before .before .before .before .before .before .before .before .before .pre) (whole (c .before .before .before .before .before .before .before .before .before .before)) (found-all (c .before .before .before .before .before .before .before .before)) (once-all (c .before .before .before .before .before .before)) (seen-all (c .before .before .before .before)) (narrow-all (c .before .before)) (sym (c .before .bounds-low .ensures) ∙ not-true _ (c .if6 .taken)))
+    sym (check-14 (a .version) (a .set .now) (a .plan .now) (a .tables) (a .nodes) (c .before .before .before .before .before .before .before .before .before .before .before .before .before .before .pre) (whole (c .before .before .before .before .before .before .before .before .before .before)) (found-all (c .before .before .before .before .before .before .before .before)) (once-all (c .before .before .before .before .before .before)) (seen-all (c .before .before .before .before)) (narrow-all (c .before .before)) (sym (c .before .bounds-low .ensures) ∙ not-true _ (c .if6 .taken)))
 
 -- src/input.rt:54:15
 need-of-requires : tie.Need-need-of-requires
@@ -121,7 +121,7 @@ returns-7 : tie.Need-returns-7
 returns-7 c =
     let a = c .before .before .before .before .before .before .before .before .before .before .before .before .before .before .before .args in
     ap (Accepted (a .tables) (a .nodes)) (c .need-of .ensures)
-    ∙ sym (check-passed (a .set .now) (a .plan .now) (a .tables) (a .nodes) (c .before .before .before .before .before .before .before .before .before .before .before .before .before .before .before .pre) (whole (c .before .before .before .before .before .before .before .before .before .before .before)) (found-all (c .before .before .before .before .before .before .before .before .before)) (once-all (c .before .before .before .before .before .before .before)) (seen-all (c .before .before .before .before .before)) (narrow-all (c .before .before .before)) (low-all (c .before)))
+    ∙ sym (check-passed (a .version) (a .set .now) (a .plan .now) (a .tables) (a .nodes) (c .before .before .before .before .before .before .before .before .before .before .before .before .before .before .before .pre) (whole (c .before .before .before .before .before .before .before .before .before .before .before)) (found-all (c .before .before .before .before .before .before .before .before .before)) (once-all (c .before .before .before .before .before .before .before)) (seen-all (c .before .before .before .before .before)) (narrow-all (c .before .before .before)) (low-all (c .before)))
 
 pub check-tree-spec : {M : Type 1} → statement M
 check-tree-spec =
