@@ -7,7 +7,7 @@ use Rattle.algebra.specs.Lists.{flatMap}
 use Rattle.algebra.specs.Cells.{Comparison, eq, ne, lt, le, gt, ge, sum, least, greatest, Aggregate, count, over, withinReach}
 use Rattle.algebra.specs.Plans.{always, columnsOf, numberOf, Test, test, Leaf, unit, scan, Unary, select, project, distinct, group, sort, Binary, cross, semi, quant, fold, each, pair, Plan}
 use Rattle.algebra.specs.Places.{Operator, leafNode, unaryNode, binaryNode, size, flatten}
-use Rattle.reading.specs.Versions.{cellSize, nodeSize, testSize, reachOf, unsignedCode}
+use Rattle.reading.specs.Versions.{cellSize, testSize, reachOf, unsignedCode}
 use Rattle.reading.specs.declared.version.Version.{Version}
 use Rattle.reading.specs.declared.version.Version.the-variants.{Second}
 use Rattle.reading.specs.Plan.{planMark}

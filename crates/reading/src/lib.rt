@@ -1,5 +1,6 @@
-// Reading: a set of tables and a plan, each any bytes at all. `input::check_input` meets the refusals 1 to 14; the other modules give upper
-// layers what they need to walk tables, cells and nodes, and what a tree names from outside itself.
+// Reading: a set of tables and a plan, each any bytes at all. `input::check_as` meets the refusals 1 to 14 of one of the two versions, and
+// `input::check_input` those of version 2; the other modules give upper layers what they need to walk tables, cells and nodes of either, and
+// what a tree names from outside itself.
 pub mod bound;
 pub mod bytes;
 pub mod columns;

@@ -3,7 +3,6 @@ ghost use mathlib.Core.Path.{_≡_};
 ghost use Prim.Native.Nat.{_+_, _*_, _≤_, _<_};
 ghost use lib.ListN.{length, drop};
 ghost use Rattle.reading.specs.Plan.{kindTable, testNumber, limited, listAllowed, listEnds, testAllowed, countAllowed, fieldsAllowed, nodePart, testOf, nodeOf, nodeAt, planMark, nodesAllowed, readPlanAs};
-ghost use Rattle.reading.specs.Versions.{nodeSize};
 use crate::bytes::byte_at;
 use crate::bytes::head;
 use crate::bytes::starts_with;
