@@ -46,7 +46,22 @@ fn test_image(negated: bool, test: Test) -> [u8; 16]
             left,
             right,
         } => [
-            1, comparison, mark, left, right, 0, 0, 0, 0, 0, 0, 0, 0, 0, 0, 0,
+            1,
+            comparison,
+            mark,
+            left,
+            right,
+            0,
+            0,
+            0,
+            0,
+            0,
+            0,
+            0,
+            0,
+            0,
+            0,
+            0,
         ],
         Test::Number {
             comparison,
@@ -55,8 +70,22 @@ fn test_image(negated: bool, test: Test) -> [u8; 16]
         } => {
             let code = number_bytes(number);
             [
-                2, comparison, mark, left, code[0], code[1], code[2], code[3], code[4], code[5],
-                code[6], code[7], 0, 0, 0, 0,
+                2,
+                comparison,
+                mark,
+                left,
+                code[0],
+                code[1],
+                code[2],
+                code[3],
+                code[4],
+                code[5],
+                code[6],
+                code[7],
+                0,
+                0,
+                0,
+                0,
             ]
         }
     }
