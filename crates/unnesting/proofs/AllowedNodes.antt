@@ -11,9 +11,8 @@ use lib.Seq.{getD-drop}
 use borrow.Author.Tests.{le-leb, leb-true, ltb-true}
 use Rattle.algebra.specs.Lists.{if_then_else_}
 use Rattle.algebra.specs.Cells.{inRange}
-use Rattle.reading.specs.Bytes.{byteAt, unsignedAt}
-use Rattle.reading.specs.TableSet.{wordOf}
-use Rattle.reading.specs.Plan.{kindTable, kindEntry, testLimits, testRow, limited, countAllowed, listAllowed, testAllowed, fieldsAllowed, nodePart, testOf, nodeOf, nodeAt, nodesOf, nodesAllowed}
+use Rattle.reading.specs.Bytes.{byteAt}
+use Rattle.reading.specs.Plan.{kindTable, kindEntry, testLimits, testRow, limited, countAllowed, listAllowed, testNumber, testAllowed, fieldsAllowed, nodePart, testOf, nodeOf, nodeAt, nodesOf, nodesAllowed}
 use Rattle.reading.specs.declared.plan.Test.the-variants.{Always, Columns, Number}
 use Rattle.reading.specs.declared.plan.Node.{Node}
 use Rattle.reading.proofs.Laws.{all-at}
