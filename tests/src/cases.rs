@@ -9,6 +9,7 @@ use crate::nodes::write_plan;
 use crate::plan::Plan;
 use crate::random::Random;
 use crate::tables::write_set;
+use crate::version::VERSION_2;
 
 /// One set and plan.
 pub struct Case {
@@ -69,7 +70,7 @@ fn accepted_case(input: &Input) -> Case {
 fn small(random: &mut Random) -> Input {
     loop {
         let input = accepted(random);
-        if input.plan.size() <= 24 && input.set_bytes().len() <= 600 {
+        if input.plan.size() <= 24 && input.set_bytes().len() <= 1_200 {
             return input;
         }
     }
@@ -86,7 +87,7 @@ pub fn fault_case(random: &mut Random, fault: &Fault) -> Case {
 
 /// The same with one random input; none if the faults do not suit it.
 pub fn damaged_once(random: &mut Random, faults: &[&Fault]) -> Option<Case> {
-    let (set, plan) = damaged(&small(random), faults, random)?;
+    let (set, plan) = damaged(VERSION_2, &small(random), faults, random)?;
     let routes = faults.iter().map(|fault| format!("{} {}", fault.number, fault.name)).collect();
     Some(Case { routes, expected: deciding(faults), set, plan })
 }

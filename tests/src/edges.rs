@@ -33,7 +33,7 @@ fn cards_of_player() -> Plan {
 }
 
 /// Cells of each sort: numbers at the ends of the range and around 0, blank, off scale.
-const ENDS: [i32; 6] = [-LARGEST, LARGEST, BLANK, OFF_SCALE, 0, -1];
+const ENDS: [i64; 6] = [-LARGEST, LARGEST, BLANK, OFF_SCALE, 0, -1];
 
 /// All edges.
 pub fn edges() -> Vec<(String, Input)> {
@@ -127,7 +127,7 @@ fn limits() -> Vec<(&'static str, Input)> {
 
 /// Cards with blanks at every place where they decide an aggregate or must not.
 fn cards_with_blanks() -> Table {
-    let counted: [(i32, &[i32]); 13] = [
+    let counted: [(i64, &[i64]); 13] = [
         // Blanks first, between and last; none; alone; and no player at all.
         (1, &[5, BLANK, 7]),
         (2, &[BLANK, 8]),
@@ -227,7 +227,7 @@ fn comparisons_by_keys() -> Vec<(&'static str, Input)> {
 
 /// Some and Every with a ≠ over cards that are blank or off scale, alone and beside a number that passes or does not.
 fn comparisons_of_cards() -> Vec<(&'static str, Input)> {
-    let scores: [(i32, &[i32]); 7] = [
+    let scores: [(i64, &[i64]); 7] = [
         (1, &[36, BLANK]),
         (2, &[10, BLANK]),
         (3, &[BLANK]),
@@ -450,7 +450,7 @@ fn tables_of_many_rows() -> Vec<Table> {
     let keys = [&in_one_bucket[..], &[BLANK, 7, OFF_SCALE, 7, LARGEST, -LARGEST, 8]].concat();
     let keyed = |height: usize, step: usize| {
         let cell = |row: usize| [5, -3, BLANK, 12, 5, 0, 4][row % 7];
-        let row = |row: usize| vec![keys[(row * step + row / 11) % keys.len()], cell(row), row as i32];
+        let row = |row: usize| vec![keys[(row * step + row / 11) % keys.len()], cell(row), row as i64];
         Table { columns: 3, rows: (0..height).map(row).collect() }
     };
     vec![keyed(34, 3), keyed(40, 5), keyed(3, 1)]
@@ -459,7 +459,7 @@ fn tables_of_many_rows() -> Vec<Table> {
 /// A table of 36 rows that are different in both of two columns, or equal in both, all in one bucket, and of a third column.
 fn rows_of_one_bucket() -> Table {
     let shared = rows_in_one_bucket(&mut Random::new(41), 6);
-    let row = |row: usize| [&shared[(5 * row + row / 7) % 6][..], &[row as i32 % 2]].concat();
+    let row = |row: usize| [&shared[(5 * row + row / 7) % 6][..], &[row as i64 % 2]].concat();
     Table { columns: 3, rows: (0..36).map(row).collect() }
 }
 

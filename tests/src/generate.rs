@@ -156,7 +156,7 @@ pub fn related_tables(random: &mut Random) -> (Vec<Table>, Vec<KeyColumn>) {
 }
 
 /// A few different codes, most of them small numbers.
-fn key_sequence(random: &mut Random) -> Vec<i32> {
+fn key_sequence(random: &mut Random) -> Vec<i64> {
     let mut keys = Vec::new();
     for _ in 0..random.between(0, 5) {
         let key = code(random);
@@ -168,7 +168,7 @@ fn key_sequence(random: &mut Random) -> Vec<i32> {
 }
 
 /// A column of a given height whose first occurrences are the keys.
-fn run_through(random: &mut Random, keys: &[i32], height: usize) -> Vec<i32> {
+fn run_through(random: &mut Random, keys: &[i64], height: usize) -> Vec<i64> {
     let mut seen = 0;
     let mut cells = Vec::new();
     while cells.len() < height {
@@ -184,22 +184,22 @@ fn run_through(random: &mut Random, keys: &[i32], height: usize) -> Vec<i32> {
 }
 
 /// A code of a cell: mostly small numbers, some blank, off scale or at the ends of the range.
-pub fn code(random: &mut Random) -> i32 {
+pub fn code(random: &mut Random) -> i64 {
     match random.below(20) {
         0 | 1 => BLANK,
         2 => OFF_SCALE,
         3 => random.pick(&[LARGEST, LARGEST - 1, -LARGEST, 1 - LARGEST]),
         4 => random.pick(&[30, 31, 36, -30]),
-        _ => random.below(7) as i32 - 2,
+        _ => random.below(7) as i64 - 2,
     }
 }
 
 /// A number for a test.
-fn number(random: &mut Random) -> i32 {
+fn number(random: &mut Random) -> i64 {
     match random.below(12) {
         0 => random.pick(&[LARGEST, -LARGEST, LARGEST - 1]),
         1 => 30,
-        _ => random.below(7) as i32 - 2,
+        _ => random.below(7) as i64 - 2,
     }
 }
 
@@ -570,7 +570,7 @@ impl Maker<'_> {
 /// A Semi or Anti that is right for U3 or U4 but for the ids: all 256 are introduced, or one is
 /// left (then it is c).
 pub fn all_ids_taken(random: &mut Random) -> Input {
-    let codes: Vec<i32> = (0..16).map(|_| code(random)).collect();
+    let codes: Vec<i64> = (0..16).map(|_| code(random)).collect();
     let wide = Table { columns: 16, rows: vec![codes] };
     let key = random.below(16) as u8;
     let left = Plan::Distinct { list: vec![key], child: Box::new(Plan::Scan { table: 0, first: 0 }) };
@@ -596,7 +596,7 @@ pub fn all_ids_taken(random: &mut Random) -> Input {
 /// A Semi, Anti or Pair that is right for its rule, below a Cross or Each whose bound grows with
 /// the step, sometimes over 4,096.
 pub fn bound_grows(random: &mut Random) -> Input {
-    let keys: Vec<i32> = (0..4).collect();
+    let keys: Vec<i64> = (0..4).collect();
     let short = one_column(&keys);
     let height = random.between(62, 66);
     let long = one_column(&run_through(random, &keys, height));
@@ -628,7 +628,7 @@ fn of_two_keys(random: &mut Random, (left, left_key): (Plan, u8), (right, right_
 /// cells of its own.
 pub fn common_beginning(random: &mut Random) -> Input {
     let beginning = match random.below(20) {
-        0 => (0..random.between(100, 990) as i32).collect(),
+        0 => (0..random.between(100, 990) as i64).collect(),
         _ => key_sequence(random),
     };
     let mut column = || {
@@ -675,7 +675,7 @@ fn scores(random: &mut Random) -> Table {
     let height = if random.chance(10) { 0 } else { random.between(6, 16) };
     let mut row = || {
         let key = random.below(4);
-        let code = if random.chance(10) { BLANK } else { key as i32 };
+        let code = if random.chance(10) { BLANK } else { key as i64 };
         vec![code, random.pick(&cells[key]), random.pick(&cells[key])]
     };
     Table { columns: 3, rows: (0..height).map(|_| row()).collect() }
@@ -759,7 +759,7 @@ fn equal_scores(random: &mut Random) -> Table {
     let scores = [0; 2].map(|_| random.pick(&[BLANK, OFF_SCALE, 31, 36]));
     let players = [code(random), code(random), code(random), 5, 6];
     let height = if random.chance(5) { random.below(3) } else { random.between(3, 10) };
-    let row = |number: usize| vec![random.pick(&scores), random.pick(&players), number as i32];
+    let row = |number: usize| vec![random.pick(&scores), random.pick(&players), number as i64];
     Table { columns: 3, rows: (0..height).map(row).collect() }
 }
 

@@ -155,9 +155,9 @@ impl Counts {
 }
 
 /// The sides that the first node of an accepted plan compares by ≠, for a Select (0), a Pair (1) and a Group (2).
-fn unequal_sides(plan: &Plan, tables: &[Table]) -> Option<(usize, Vec<(i32, i32)>)> {
+fn unequal_sides(plan: &Plan, tables: &[Table]) -> Option<(usize, Vec<(i64, i64)>)> {
     let cells = |child: &Plan, id: u8| column_cells(child, id, tables);
-    let every_two = |left: Vec<i32>, right: Vec<i32>| -> Vec<(i32, i32)> {
+    let every_two = |left: Vec<i64>, right: Vec<i64>| -> Vec<(i64, i64)> {
         left.iter().flat_map(|&one| right.iter().map(move |&other| (one, other))).collect()
     };
     match plan {

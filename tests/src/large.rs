@@ -56,7 +56,7 @@ pub fn work(plan: &Plan, tables: &[Table]) -> u64 {
 }
 
 /// Four tables: two large ones, one of up to 64 rows, and one of very few.
-fn tables(random: &mut Random, keys: &[i32]) -> Vec<Table> {
+fn tables(random: &mut Random, keys: &[i64]) -> Vec<Table> {
     let heights = [height(random, 1000), height(random, 1000), height(random, 64), random.below(4)];
     let wide = random.chance(8);
     heights.map(|height| table(random, keys, height, wide)).to_vec()
@@ -72,19 +72,19 @@ fn height(random: &mut Random, most: usize) -> usize {
 }
 
 /// A table of up to five columns, now and then of 16. Most columns have keys, others cells of all sorts or the row's number.
-fn table(random: &mut Random, keys: &[i32], height: usize, wide: bool) -> Table {
+fn table(random: &mut Random, keys: &[i64], height: usize, wide: bool) -> Table {
     let width = if wide && height <= 64 { 16 } else { random.between(1, 5) };
     let one_column = |random: &mut Random| match random.below(10) {
         0..=4 => column(random, keys, height),
         5..=6 => (0..height).map(|_| code(random)).collect(),
         7 => column(random, &keys[..keys.len().min(2)], height),
-        _ => (0..height as i32).collect(),
+        _ => (0..height as i64).collect(),
     };
-    let mut cells: Vec<Vec<i32>> = (0..width).map(|_| one_column(random)).collect();
+    let mut cells: Vec<Vec<i64>> = (0..width).map(|_| one_column(random)).collect();
     if width >= 2 && random.chance(15) {
         let count = random.between(2, 40);
         let shared = rows_in_one_bucket(random, count);
-        let drawn: Vec<[i32; 2]> = (0..height).map(|_| random.pick(&shared)).collect();
+        let drawn: Vec<[i64; 2]> = (0..height).map(|_| random.pick(&shared)).collect();
         cells[0] = drawn.iter().map(|row| row[0]).collect();
         cells[1] = drawn.iter().map(|row| row[1]).collect();
     }
@@ -102,7 +102,7 @@ struct Drawn {
 struct Maker<'a> {
     random: &'a mut Random,
     tables: &'a [Table],
-    numbers: &'a [i32],
+    numbers: &'a [i64],
     ids: Ids,
 }
 
@@ -178,8 +178,8 @@ impl Maker<'_> {
     }
 
     /// A number for a test: a key, or a small one.
-    fn number(&mut self) -> i32 {
-        let small = self.random.below(9) as i32 - 3;
+    fn number(&mut self) -> i64 {
+        let small = self.random.below(9) as i64 - 3;
         let key = self.random.pick(self.numbers);
         self.random.pick(&[small, key])
     }
@@ -398,7 +398,7 @@ impl Met {
         if size < 2 {
             return;
         }
-        let on_both = |code: i32| [&left, &right].iter().all(|side| side.contains(&vec![code]));
+        let on_both = |code: i64| [&left, &right].iter().all(|side| side.contains(&vec![code]));
         let keys = different(right.clone());
         let buckets = different(keys.iter().map(|key| bucket(key)).collect());
         let one_bucket = buckets.len() < keys.len();
@@ -464,7 +464,7 @@ impl Met {
 }
 
 /// Rows of keys that are looked up, and those that they are looked up in.
-type Sides = (Vec<Vec<i32>>, Vec<Vec<i32>>);
+type Sides = (Vec<Vec<i64>>, Vec<Vec<i64>>);
 
 /// The keys that a node compares by =, for a Semi or an Anti (0), a Pair (1), a Group (2) and a Distinct (3). Of the last two both sides are of
 /// the child.

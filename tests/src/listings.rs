@@ -47,7 +47,7 @@ pub fn runs() -> Vec<Run> {
     moved[1].rows = vec![vec![9, BLANK], vec![7, 36], vec![4, 31], vec![7, 33]];
     let codes = table(&[&[BLANK, OFF_SCALE, -1], &[-LARGEST, LARGEST, 0]]);
     let mut beyond = write_set(&tables);
-    beyond[8..12].copy_from_slice(&(LARGEST + 1).to_le_bytes());
+    beyond[8..16].copy_from_slice(&(LARGEST + 1).to_le_bytes());
     vec![
         Run::of("paper", tables.clone(), plan.clone()),
         Run::of("stay", moved, plan.clone()),

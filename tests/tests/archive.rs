@@ -107,7 +107,7 @@ mod held {
     }
 
     /// Cells that decide an aggregate or a comparison: the two codes that are no numbers, the ends of the range, 1 and 0.
-    const CELLS: [i32; 6] = [BLANK, OFF_SCALE, LARGEST, -LARGEST, 1, 0];
+    const CELLS: [i64; 6] = [BLANK, OFF_SCALE, LARGEST, -LARGEST, 1, 0];
 
     /// All lists of up to so many of these items.
     fn short_lists<T: Clone>(items: &[T], most: usize) -> Vec<Vec<T>> {
@@ -151,7 +151,7 @@ mod held {
 
     /// Plans that compare a left cell with a right one, over a table of these two as a row and one of a row for each, numbered 1 and 2: by
     /// a test of columns, and of a number where the right cell is one, without and with a not-mark; by the keys of a Pair and of a Group.
-    fn comparing(comparison: Comparison, right: i32) -> Vec<Plan> {
+    fn comparing(comparison: Comparison, right: i64) -> Vec<Plan> {
         let mut tests = vec![columns_test(0, comparison, 1)];
         if is_number(right) {
             tests.push(number_test(0, comparison, right));
@@ -182,13 +182,13 @@ mod held {
     }
 
     /// The set of a table of these rows of two cells, each with its number in a third column, which tells equal rows apart.
-    fn numbered(cells: &[[i32; 2]]) -> Vec<u8> {
+    fn numbered(cells: &[[i64; 2]]) -> Vec<u8> {
         let rows = cells.iter().zip(1..).map(|(&[one, other], number)| vec![one, other, number]).collect();
         write_set(&[Table { columns: 3, rows }])
     }
 
     /// The archive's rows of a Sort of such a table, held against the second evaluator.
-    fn sorted(random: &mut Random, set: &[u8], down: bool, list: &[u8], counts: &mut Counts) -> Vec<Vec<i32>> {
+    fn sorted(random: &mut Random, set: &[u8], down: bool, list: &[u8], counts: &mut Counts) -> Vec<Vec<i64>> {
         let plan = write_plan(&sort(down, list, scan(0, 0)));
         let held = hold_report(random, set, &plan, counts);
         held.unwrap_or_else(|difference| panic!("down {down}, by {list:?}, {set:?}: {difference}"));
@@ -202,7 +202,7 @@ mod held {
         let mut random = Random::new(9);
         let mut counts = Counts::default();
         let codes = [BLANK, 0, OFF_SCALE];
-        let every_two: Vec<[i32; 2]> = codes.iter().flat_map(|&one| codes.map(|other| [one, other])).collect();
+        let every_two: Vec<[i64; 2]> = codes.iter().flat_map(|&one| codes.map(|other| [one, other])).collect();
         for cells in short_lists(&every_two, 4) {
             let set = numbered(&cells);
             for list in [&[0][..], &[1], &[0, 1], &[1, 0]] {

@@ -84,7 +84,7 @@ const RIGHT: [usize; 9] = [0, 1, 2, 31, 32, 33, 34, 64, 100];
 const LEFT: [usize; 5] = [0, 1, 2, 33, 70];
 
 /// Keys of every sort, each under its name; tables take them in turn.
-fn sorts_of_keys(random: &mut Random) -> Vec<(&'static str, Vec<i32>)> {
+fn sorts_of_keys(random: &mut Random) -> Vec<(&'static str, Vec<i64>)> {
     let one_bucket = in_bucket_of(random, 5, 50);
     // Numbers in the buckets of blank and of off scale, beside these.
     let [of_blank, of_off_scale] = [BLANK, OFF_SCALE].map(|cell| [in_bucket_of(random, cell, 4), vec![cell]].concat());
@@ -104,13 +104,13 @@ fn sorts_of_keys(random: &mut Random) -> Vec<(&'static str, Vec<i32>)> {
 }
 
 /// A table of a key out of some, a cell of all sorts, a key of another step, and the row's number.
-fn keyed(keys: &[i32], height: usize, first: usize) -> Table {
+fn keyed(keys: &[i64], height: usize, first: usize) -> Table {
     let cells = [3, BLANK, -8, 0, LARGEST, 5, 5, OFF_SCALE, 1, -1, 2];
     let row = |row: usize| {
         let place = first + row;
         // Off scale is rare among the cells, so that most aggregates are numbers.
         let cell = if place % 61 == 7 { OFF_SCALE } else { cells[place % 7] };
-        vec![keys[place % keys.len()], cell, keys[(7 * place + 3) % keys.len()], row as i32]
+        vec![keys[place % keys.len()], cell, keys[(7 * place + 3) % keys.len()], row as i64]
     };
     Table { columns: 4, rows: (0..height).map(row).collect() }
 }
@@ -174,7 +174,7 @@ fn keys_of_every_sort_are_compared_on_a_thousand_rows() {
     // Rows that are different in both of two columns, or equal in both, all in one bucket.
     for (count, height) in [(2, 33), (20, 64), (40, 1000), (500, 1000)] {
         let shared = rows_in_one_bucket(&mut holder.random, count);
-        let row = |row: usize| [&shared[row * 7 % count][..], &[row as i32]].concat();
+        let row = |row: usize| [&shared[row * 7 % count][..], &[row as i64]].concat();
         let table = Table { columns: 3, rows: (0..height).map(row).collect() };
         let lists: [&[u8]; 4] = [&[0, 1], &[1, 0], &[1], &[1, 2, 0]];
         let name = format!("{count} rows in one bucket, {height} times");
@@ -208,7 +208,7 @@ fn over_a_cross() -> Vec<Plan> {
 fn keys_are_compared_on_crosses_of_4096_rows() {
     let mut holder = Holder::new(14);
     let shared = in_bucket_of(&mut holder.random, BLANK, 64);
-    let different: Vec<i32> = (0..65).collect();
+    let different: Vec<i64> = (0..65).collect();
     let sorts_of_keys =
         [("all different", &different[..]), ("two", &[1, 2]), ("one bucket", &shared), ("blank", &[BLANK])];
     for (name, keys) in sorts_of_keys {
@@ -226,10 +226,10 @@ fn keys_are_compared_on_crosses_of_4096_rows() {
 
 /// A table of eight columns to be sorted: the row's number; the keys in an order, twice, with one of three numbers between; a number that falls
 /// every five rows; and three that are equal in all rows.
-fn to_sort(random: &mut Random, keys: &[i32], height: usize, order: Order) -> Table {
-    let mut column: Vec<i32> = (0..height).map(|row| keys[row % keys.len()]).collect();
+fn to_sort(random: &mut Random, keys: &[i64], height: usize, order: Order) -> Table {
+    let mut column: Vec<i64> = (0..height).map(|row| keys[row % keys.len()]).collect();
     arrange(random, &mut column, order);
-    let row = |(row, key): (i32, i32)| vec![row, key, row % 3, key, -(row / 5), 9, 9, 9];
+    let row = |(row, key): (i64, i64)| vec![row, key, row % 3, key, -(row / 5), 9, 9, 9];
     Table { columns: 8, rows: (0..).zip(column).map(row).collect() }
 }
 
@@ -255,8 +255,8 @@ fn sorts_of_every_size_and_order() {
 /// A table of 16 columns whose cells tell their places, but for a third of them, which are small keys.
 fn wide(height: usize) -> Table {
     let cell = |row: usize, column: usize| match (row + column) % 3 {
-        0 => (row * column % 5) as i32,
-        _ => (100 * column + row) as i32,
+        0 => (row * column % 5) as i64,
+        _ => (100 * column + row) as i64,
     };
     let rows = (0..height).map(|row| (0..16).map(|column| cell(row, column)).collect()).collect();
     Table { columns: 16, rows }

@@ -56,7 +56,7 @@ fn inputs() -> Vec<(Vec<u8>, Vec<u8>)> {
     while all.len() < with_random {
         let input = accepted(&mut random);
         let (set, plan) = (input.set_bytes(), input.plan_bytes());
-        if set.len() <= 2000 {
+        if set.len() <= 4000 {
             all.push((set, plan));
         }
     }
