@@ -4,7 +4,7 @@
 
 use crate::cells::{BLANK, OFF_SCALE};
 use crate::check::{columns, need, read_plan};
-use crate::evaluate::Evaluator;
+use crate::evaluate::{Evaluator, Left};
 use crate::nodes::write_plan;
 use crate::plan::Plan;
 use crate::rules::{first_fit, stay_position, try_step};
@@ -74,12 +74,12 @@ pub fn report_of(tree: &Plan, tables: &[Table]) -> Report {
     report_in(VERSION_2, tree, tables).0
 }
 
-/// The report in a version, its cells as they are held in memory; and how many sums left the version's range, at any node.
-pub fn report_in(version: Version, tree: &Plan, tables: &[Table]) -> (Report, usize) {
+/// The report in a version, its cells as they are held in memory; and the sums that left a range.
+pub fn report_in(version: Version, tree: &Plan, tables: &[Table]) -> (Report, Left) {
     let evaluator = Evaluator::new(version, tables);
     let rows = evaluator.rows(tree, None);
     let report = Report { rows: rows.len(), columns: columns(tree, tables).len(), codes: rows.concat() };
-    (report, evaluator.sums_that_left_the_range())
+    (report, evaluator.left())
 }
 
 /// The reporting call: refusals 1 to 14, then 16, then 15, or the report.

@@ -56,11 +56,22 @@ pub fn first_occurrences<T: PartialEq + Clone>(values: &[T]) -> Vec<T> {
     seen
 }
 
+/// Sums whose exact total left a range, at any node.
+#[derive(Clone, Copy, Debug, Default, PartialEq, Eq)]
+pub struct Left {
+    /// Those that left the range of numbers, and are off scale.
+    pub range: usize,
+    /// Those of them that left 64 bits.
+    pub bits: usize,
+    /// Those of these whose total, kept in 64 bits, would be back in the range.
+    pub back: usize,
+}
+
 /// What gives the rows of plans over tables of a version. The versions differ in the range of sums alone.
 pub struct Evaluator<'a> {
     version: Version,
     tables: &'a [Table],
-    left_range: Cell<usize>,
+    left: Cell<Left>,
 }
 
 /// A plan's rows over the tables, in version 2, nested in the rows of `outer`.
@@ -71,12 +82,12 @@ pub fn rows(plan: &Plan, tables: &[Table], outer: Option<&Scope>) -> Vec<Vec<i64
 impl<'a> Evaluator<'a> {
     /// One over these tables, whose cells are all of the version.
     pub fn new(version: Version, tables: &'a [Table]) -> Evaluator<'a> {
-        Evaluator { version, tables, left_range: Cell::new(0) }
+        Evaluator { version, tables, left: Cell::new(Left::default()) }
     }
 
-    /// How many sums have left the range so far, at any node.
-    pub fn sums_that_left_the_range(&self) -> usize {
-        self.left_range.get()
+    /// The sums so far that left a range.
+    pub fn left(&self) -> Left {
+        self.left.get()
     }
 
     /// The aggregate of rows that were already found to pass.
@@ -105,10 +116,21 @@ impl<'a> Evaluator<'a> {
         match i64::try_from(exact) {
             Ok(total) if self.version.has_number(total) => total,
             _ => {
-                self.left_range.set(self.left_range.get() + 1);
+                self.count_left(exact);
                 OFF_SCALE
             }
         }
+    }
+
+    /// Counts a total that left the range.
+    fn count_left(&self, exact: i128) {
+        let mut left = self.left.get();
+        left.range += 1;
+        if i64::try_from(exact).is_err() {
+            left.bits += 1;
+            left.back += usize::from(self.version.has_number(exact as i64));
+        }
+        self.left.set(left);
     }
 
     /// A plan's rows, nested in the rows of `outer`.

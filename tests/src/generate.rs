@@ -7,6 +7,7 @@ use crate::check::{bound, check_tree, columns};
 use crate::downward::keeping_equal_rows;
 use crate::evaluate::{column_cells, first_occurrences};
 use crate::in_place::{self, Tree, OTHERS, PASSING, TURNS};
+use crate::keys::AROUND_POWERS;
 use crate::nodes::write_plan;
 use crate::plan::{Aggregate, Comparison, Form, Keys, Plan, Test, ALWAYS, COMPARISONS};
 use crate::random::Random;
@@ -183,23 +184,38 @@ fn run_through(random: &mut Random, keys: &[i64], height: usize) -> Vec<i64> {
     cells
 }
 
-/// A code of a cell: mostly small numbers, some blank, off scale or at the ends of the range.
+/// A code of a cell: mostly small numbers, some blank, off scale, at the ends of the range, around powers of two, or alike with a small one in
+/// their lower 32 bits.
 pub fn code(random: &mut Random) -> i64 {
-    match random.below(20) {
-        0 | 1 => BLANK,
-        2 => OFF_SCALE,
-        3 => random.pick(&[LARGEST, LARGEST - 1, -LARGEST, 1 - LARGEST]),
-        4 => random.pick(&[30, 31, 36, -30]),
-        _ => random.below(7) as i64 - 2,
+    match random.below(40) {
+        0..=3 => BLANK,
+        4..=5 => OFF_SCALE,
+        6..=7 => random.pick(&[LARGEST, LARGEST - 1, -LARGEST, 1 - LARGEST]),
+        8..=9 => random.pick(&[30, 31, 36, -30]),
+        10 => random.pick(&AROUND_POWERS),
+        11 => alike_with_small(random),
+        _ => small(random),
     }
+}
+
+/// A small number.
+fn small(random: &mut Random) -> i64 {
+    random.below(7) as i64 - 2
+}
+
+/// A number that is alike with a small one in its lower 32 bits.
+fn alike_with_small(random: &mut Random) -> i64 {
+    small(random) + (random.pick(&[-2_000_000, -1, 1, 2_000_000]) << 32)
 }
 
 /// A number for a test.
 fn number(random: &mut Random) -> i64 {
-    match random.below(12) {
-        0 => random.pick(&[LARGEST, -LARGEST, LARGEST - 1]),
-        1 => 30,
-        _ => random.below(7) as i64 - 2,
+    match random.below(24) {
+        0..=1 => random.pick(&[LARGEST, -LARGEST, LARGEST - 1]),
+        2..=3 => 30,
+        4 => random.pick(&AROUND_POWERS),
+        5 => alike_with_small(random),
+        _ => small(random),
     }
 }
 

@@ -35,3 +35,4 @@ pub mod rules;
 pub mod stack;
 pub mod tables;
 pub mod version;
+pub mod wide;
