@@ -35,6 +35,7 @@ mod held {
         assert!(met(&counts.rules[1..], 200), "{:?}", counts.rules);
         assert!(met(&counts.notes, 100) && counts.ended >= 100, "{:?}, {}", counts.notes, counts.ended);
         assert!(met(&counts.sums, 200), "{:?}", counts.sums);
+        assert!(met(&counts.left, 20), "{:?}", counts.left);
         assert!(counts.unequal.iter().all(|sides| met(sides, 100)), "{:?}", counts.unequal);
         assert!(counts.equal_rows >= 200 && met(&counts.decided, 40), "{}, {:?}", counts.equal_rows, counts.decided);
         let between = &counts.between;
@@ -109,6 +110,10 @@ mod held {
     /// Cells that decide an aggregate or a comparison: the two codes that are no numbers, the ends of the range, 1 and 0.
     const CELLS: [i64; 6] = [BLANK, OFF_SCALE, LARGEST, -LARGEST, 1, 0];
 
+    /// Numbers that a comparison of 32 of their bits, or of their sum, or as numbers of 53 bits, would take for each other.
+    const WIDE_CELLS: [i64; 8] =
+        [7, 7 + (1 << 32), 8 + (1 << 32), 6 + (2 << 32), 7 - (1 << 32), 7 + (1 << 51), 8 + (1 << 52), -2_147_483_648];
+
     /// All lists of up to so many of these items.
     fn short_lists<T: Clone>(items: &[T], most: usize) -> Vec<Vec<T>> {
         let longer = |list: &Vec<T>| -> Vec<Vec<T>> {
@@ -179,6 +184,20 @@ mod held {
         assert!(differences.is_empty(), "{} differences:\n{}", differences.len(), differences.join("\n"));
         // Each of 6 cells beside each: a number and a blank 8 times, two blanks once, off scale and anything 11 times.
         assert_eq!(counts.unequal[1], [8, 1, 11]);
+    }
+
+    #[test]
+    fn k13_comparisons_of_every_two_wide_cells_are_those_of_the_second_evaluator() {
+        let mut random = Random::new(21);
+        let mut counts = Counts::default();
+        for (left, right) in WIDE_CELLS.iter().flat_map(|&left| WIDE_CELLS.map(|right| (left, right))) {
+            let set = write_set(&[table(&[&[left, right]]), table(&[&[left, 1], &[right, 2]])]);
+            for plan in COMPARISONS.iter().flat_map(|&comparison| comparing(comparison, right)) {
+                let held = hold_report(&mut random, &set, &write_plan(&plan), &mut counts);
+                held.unwrap_or_else(|difference| panic!("{left}, {right}, {plan:?}: {difference}"));
+            }
+        }
+        println!("every two wide cells: reports {}", counts.reports[0]);
     }
 
     /// The set of a table of these rows of two cells, each with its number in a third column, which tells equal rows apart.

@@ -7,12 +7,16 @@ use second::check::{check_tree, columns};
 use second::evaluate::first_occurrences;
 use second::generate::Input;
 use second::held::{hold_rooms, hold_stay_notes, hold_unnest, Counts, Due};
-use second::keys::{arrange, in_bucket_of, rows_in_one_bucket, Order, ORDERS};
+use second::keys::{
+    alike_above, alike_below, anywhere, arrange, folded_alike, in_bucket_of, rows_in_one_bucket, Order, AROUND_POWERS,
+    ORDERS,
+};
 use second::large::{large, work, Met};
 use second::plan::Comparison::{Equal, Greater, Less, NotEqual};
 use second::plan::{Aggregate, Comparison, Plan, Test, ALWAYS, COMPARISONS};
 use second::random::Random;
 use second::tables::{write_set, Table};
+use second::wide::{summed_near, sums_of_all, wide_totals, Summed, LANDMARKS};
 
 /// How many random inputs are tried, and how many rows, or pairs of rows, the second evaluator may look at for one of them.
 const INPUTS: u64 = 4_000;
@@ -100,6 +104,11 @@ fn sorts_of_keys(random: &mut Random) -> Vec<(&'static str, Vec<i64>)> {
         ("blank, off scale and their buckets", [of_blank, of_off_scale].concat()),
         ("the ends", vec![LARGEST, -LARGEST, LARGEST - 1, 1 - LARGEST, BLANK, OFF_SCALE]),
         ("few with a blank", vec![1, 2, BLANK, 3, 1]),
+        ("alike in the lower half", alike_below(random, 50)),
+        ("two alike in the lower half", alike_below(random, 2)),
+        ("alike in the upper half", alike_above(random, 50)),
+        ("of one sum of their halves", folded_alike(random, 5, 50)),
+        ("around powers of two", [&AROUND_POWERS[..], &[BLANK, OFF_SCALE]].concat()),
     ]
 }
 
@@ -209,8 +218,14 @@ fn keys_are_compared_on_crosses_of_4096_rows() {
     let mut holder = Holder::new(14);
     let shared = in_bucket_of(&mut holder.random, BLANK, 64);
     let different: Vec<i64> = (0..65).collect();
-    let sorts_of_keys =
-        [("all different", &different[..]), ("two", &[1, 2]), ("one bucket", &shared), ("blank", &[BLANK])];
+    let alike = alike_below(&mut holder.random, 64);
+    let sorts_of_keys = [
+        ("all different", &different[..]),
+        ("two", &[1, 2]),
+        ("one bucket", &shared),
+        ("blank", &[BLANK]),
+        ("alike in the lower half", &alike),
+    ];
     for (name, keys) in sorts_of_keys {
         let table = |height: usize, first: usize| {
             let row = |row: usize| vec![keys[(row + first) % keys.len()], [LARGEST, -LARGEST][row % 2]];
@@ -250,6 +265,76 @@ fn sorts_of_every_size_and_order() {
         }
     }
     print!("Sorts of 79 sizes in {} orders, reports {}, {}", ORDERS.len(), holder.reports, holder.met.sort_line());
+}
+
+/// So many numbers of each sort that a Sort may take for others: those that differ in one half of their bits alone, or that lie around
+/// -2^51 and 2^51 or beyond, or anywhere; with blank and off scale among them.
+fn wide_numbers(random: &mut Random, height: usize) -> Vec<(&'static str, Vec<i64>)> {
+    let around = |middle: i64| (0..height as i64).map(|number| middle + 5 * number - 40).collect::<Vec<i64>>();
+    let beyond = |random: &mut Random| random.pick(&[-1, 1]) * ((1 << 51) + random.below(1 << 52) as i64);
+    let mut all = vec![
+        ("alike in the lower half", alike_below(random, height)),
+        ("alike in the upper half", alike_above(random, height)),
+        ("around 2^51", around(1 << 51)),
+        ("around -2^51", around(-(1 << 51))),
+        ("beyond 2^51", (0..height).map(|_| beyond(random)).collect()),
+        ("anywhere", (0..height).map(|_| anywhere(random)).collect()),
+        ("around powers of two", (0..height).map(|_| random.pick(&AROUND_POWERS)).collect()),
+    ];
+    for (_, cells) in &mut all {
+        for cell in [BLANK, OFF_SCALE] {
+            if random.chance(50) {
+                cells[random.below(height)] = cell;
+            }
+        }
+    }
+    all
+}
+
+#[test]
+fn k13_sorts_of_wide_numbers_of_every_size() {
+    let mut holder = Holder::new(19);
+    for height in 2..=300 {
+        for (name, keys) in wide_numbers(&mut holder.random, height) {
+            let order = holder.random.pick(&ORDERS);
+            let table = to_sort(&mut holder.random, &keys, height, order);
+            // By the key alone, and by it after a column of three numbers.
+            let plans = [&[11][..], &[12, 11]].map(|list| sort(holder.random.chance(50), list, scan(0, 10)));
+            holder.hold(&format!("{height} rows, {name}, {order:?}"), &[table], plans.to_vec());
+        }
+    }
+    print!("Sorts of wide numbers, of 2 to 300 rows, reports {}, {}", holder.reports, holder.met.sort_line());
+}
+
+#[test]
+fn k13_sums_are_exact_beyond_64_bits() {
+    let mut holder = Holder::new(20);
+    for landmark in LANDMARKS {
+        for times in [2, 3, 4] {
+            if times == 2 && landmark.unsigned_abs() > 1 << 63 {
+                continue;
+            }
+            for more in [-LARGEST, -LARGEST / 4, -1_000_003, -1, 0, 1, 2, 999_999_999_999, LARGEST / 4, LARGEST] {
+                let Summed { tables, total } = summed_near(&mut holder.random, landmark, i128::from(more), times);
+                holder.hold(&format!("a total of {total}"), &tables, sums_of_all().to_vec());
+            }
+        }
+    }
+    // As many of the largest as of the least number, 4,096 in all; and all rows but one or two of one sign.
+    for others in [0, 1, 2, 31, 32] {
+        let cell = |row: usize| if row < others { -LARGEST } else { LARGEST };
+        for sign in [1, -1] {
+            let rows = (0..64).map(|row| vec![row as i64 % 2, sign * cell(row)]).collect();
+            let tables = [Table { columns: 2, rows }, one_column(&[7; 64])];
+            holder.hold(&format!("64 times {others} of 64"), &tables, sums_of_all().to_vec());
+        }
+    }
+    for _ in 0..300 {
+        let Input { tables, plan } = wide_totals(&mut holder.random);
+        holder.hold("drawn", &tables, vec![plan]);
+    }
+    print!("sums beyond 64 bits, reports {}, {}", holder.reports, holder.counts.left_line());
+    assert!(holder.counts.left.iter().all(|&count| count > 100), "{:?}", holder.counts.left);
 }
 
 /// A table of 16 columns whose cells tell their places, but for a third of them, which are small keys.
