@@ -86,18 +86,21 @@ pub fn wide_totals(random: &mut Random) -> Input {
     let times = random.pick(&[2, 3, 4]);
     let reach = LARGEST as usize / times;
     let more = (random.below(2 * reach + 1) as i128 - reach as i128) / random.pick(&[1, 1, 1_000_000, 1 << 50]);
-    // Twice 1,000 of the largest do not reach 2^64.
-    let landmarks = if times == 2 { &LANDMARKS[..7] } else { &LANDMARKS[..] };
-    let landmark = random.pick(landmarks);
+    let landmark = match random.below(2) {
+        // Twice 1,000 of the largest do not reach 2^64.
+        0 if times > 2 => random.pick(&[1 << 64, -(1 << 64)]),
+        _ => random.pick(&LANDMARKS[..7]),
+    };
     let Summed { mut tables, .. } = summed_near(random, landmark, more, times);
-    if random.chance(20) {
+    if random.chance(10) {
         let place = random.below(tables[0].rows.len());
         tables[0].rows[place][1] = random.pick(&[BLANK, OFF_SCALE]);
     }
-    let sum = random.pick(&[Aggregate::Sum(11), Aggregate::Sum(11), Aggregate::Least(11), Aggregate::Greatest(11)]);
+    let sum =
+        if random.chance(80) { Aggregate::Sum(11) } else { random.pick(&[Aggregate::Least(11), Aggregate::Count]) };
     let by_key = random.pick(&[Equal, NotEqual]);
     let three = || distinct(&[41], project(&[41], scan(0, 41)));
-    let plan = match random.below(5) {
+    let plan = match random.below(8) {
         0 => pair(sum, 30, keys(41, by_key, 10), three(), crossed()),
         1 => group(sum, 30, keys(31, by_key, 10), crossed()),
         2 => fold(sum, 30, columns_test(41, by_key, 10), three(), crossed()),
