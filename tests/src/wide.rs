@@ -10,7 +10,7 @@ use crate::tables::Table;
 use crate::version::VERSION_1;
 
 /// So many numbers with this exact total. It lies within what so many numbers can give.
-pub fn summing_to(random: &mut Random, height: usize, total: i128) -> Vec<i64> {
+fn summing_to(random: &mut Random, height: usize, total: i128) -> Vec<i64> {
     let mut numbers = Vec::new();
     let mut rest = total;
     for left in (0..height as i128).rev() {
@@ -34,7 +34,7 @@ pub fn summing_to(random: &mut Random, height: usize, total: i128) -> Vec<i64> {
 }
 
 /// The numbers that a total may be near: those where it comes back into the range of 64 bits, those where it leaves them, and the ends.
-pub const LANDMARKS: [i128; 9] = [
+const LANDMARKS: [i128; 9] = [
     0,
     LARGEST as i128,
     -(LARGEST as i128),
@@ -54,7 +54,7 @@ pub struct Summed {
 
 /// Rows, up to 4,096 by a Cross with so many rows. Their total is the landmark, or the multiple of `times` just below it, and `more` times as much
 /// more.
-pub fn summed_near(random: &mut Random, landmark: i128, more: i128, times: usize) -> Summed {
+fn summed_near(random: &mut Random, landmark: i128, more: i128, times: usize) -> Summed {
     let once = landmark.div_euclid(times as i128) + more;
     // Half as many rows again as the total needs, where there is room for them.
     let needed = once.unsigned_abs().div_ceil(LARGEST as u128) as usize;
@@ -63,6 +63,19 @@ pub fn summed_near(random: &mut Random, landmark: i128, more: i128, times: usize
     let row = |(row, &cell): (usize, &i64)| vec![row as i64 % 3, cell];
     let table = Table { columns: 2, rows: cells.iter().enumerate().map(row).collect() };
     Summed { tables: vec![table, one_column(&vec![7; times])], total: once * times as i128 }
+}
+
+/// Rows whose totals are near each landmark, on both sides of it and at it.
+pub fn summed_near_all(random: &mut Random) -> Vec<Summed> {
+    let more = [-LARGEST, -LARGEST / 4, -1_000_003, -2, -1, 0, 1, 2, 999_999_999_999, LARGEST / 4, LARGEST];
+    let mut all = Vec::new();
+    for (landmark, times) in LANDMARKS.iter().flat_map(|&landmark| [2, 3, 4].map(|times| (landmark, times))) {
+        // Twice 1,000 of the largest do not reach 2^64.
+        if times > 2 || landmark.unsigned_abs() < 1 << 64 {
+            all.extend(more.map(|more| summed_near(random, landmark, i128::from(more), times)));
+        }
+    }
+    all
 }
 
 /// The Cross of the two tables: a key under 10, a cell under 11, and 7 under 20.

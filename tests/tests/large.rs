@@ -16,7 +16,7 @@ use second::plan::Comparison::{Equal, Greater, Less, NotEqual};
 use second::plan::{Aggregate, Comparison, Plan, Test, ALWAYS, COMPARISONS};
 use second::random::Random;
 use second::tables::{write_set, Table};
-use second::wide::{summed_near, sums_of_all, wide_totals, Summed, LANDMARKS};
+use second::wide::{summed_near_all, sums_of_all, wide_totals, Summed};
 
 /// How many random inputs are tried, and how many rows, or pairs of rows, the second evaluator may look at for one of them.
 const INPUTS: u64 = 4_000;
@@ -104,9 +104,9 @@ fn sorts_of_keys(random: &mut Random) -> Vec<(&'static str, Vec<i64>)> {
         ("blank, off scale and their buckets", [of_blank, of_off_scale].concat()),
         ("the ends", vec![LARGEST, -LARGEST, LARGEST - 1, 1 - LARGEST, BLANK, OFF_SCALE]),
         ("few with a blank", vec![1, 2, BLANK, 3, 1]),
-        ("alike in the lower half", alike_below(random, 50)),
+        ("alike in the lower half", alike_below(random, 1000)),
         ("two alike in the lower half", alike_below(random, 2)),
-        ("alike in the upper half", alike_above(random, 50)),
+        ("alike in the upper half", alike_above(random, 1000)),
         ("of one sum of their halves", folded_alike(random, 5, 50)),
         ("around powers of two", [&AROUND_POWERS[..], &[BLANK, OFF_SCALE]].concat()),
     ]
@@ -309,16 +309,8 @@ fn k13_sorts_of_wide_numbers_of_every_size() {
 #[test]
 fn k13_sums_are_exact_beyond_64_bits() {
     let mut holder = Holder::new(20);
-    for landmark in LANDMARKS {
-        for times in [2, 3, 4] {
-            if times == 2 && landmark.unsigned_abs() > 1 << 63 {
-                continue;
-            }
-            for more in [-LARGEST, -LARGEST / 4, -1_000_003, -1, 0, 1, 2, 999_999_999_999, LARGEST / 4, LARGEST] {
-                let Summed { tables, total } = summed_near(&mut holder.random, landmark, i128::from(more), times);
-                holder.hold(&format!("a total of {total}"), &tables, sums_of_all().to_vec());
-            }
-        }
+    for Summed { tables, total } in summed_near_all(&mut holder.random) {
+        holder.hold(&format!("a total of {total}"), &tables, sums_of_all().to_vec());
     }
     // As many of the largest as of the least number, 4,096 in all; and all rows but one or two of one sign.
     for others in [0, 1, 2, 31, 32] {
