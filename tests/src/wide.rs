@@ -52,8 +52,8 @@ pub struct Summed {
     pub total: i128,
 }
 
-/// Rows, up to 4,096 by a Cross with so many rows. Their total is the landmark, or the multiple of `times` just below it, and `more` times as much
-/// more.
+/// Rows, up to 4,096, of a Cross with a table of `times` rows. Their total is `times` times `more` above the landmark, or above the multiple of
+/// `times` just below it.
 fn summed_near(random: &mut Random, landmark: i128, more: i128, times: usize) -> Summed {
     let once = landmark.div_euclid(times as i128) + more;
     // Half as many rows again as the total needs, where there is room for them.
