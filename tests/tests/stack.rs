@@ -25,7 +25,7 @@ const LIMIT: usize = 512;
 const NODE_LIMIT: usize = 4096;
 
 /// The most stack, in KiB, that the listing program may need. Most systems give 8,192.
-const PROGRAM_LIMIT: usize = 4096;
+const PROGRAM_LIMIT: usize = 6144;
 
 /// A stack of 32 MiB has room for some hundred KiB in each frame of 64.
 const STACK: usize = 32 << 20;
