@@ -8,20 +8,24 @@
  * so many elements can be read, and those of out, out_plan, out_steps and scratch written; and a buffer that is written overlaps no
  * other. No call allocates, keeps a pointer, or fails in any other way than by a refusal number.
  *
+ * Tables and plans are of version 2. A cell is a signed 64-bit code: a number from -9,000,000,000,000,000 to 9,000,000,000,000,000, or one of the
+ * two codes below. A set has at most 1,024,064 bytes, a plan at most 2,054.
+ *
  * Each call gives one 64-bit word. Its low byte is the refusal, 0 for none; a refused call gives its number alone. Which answer is the
  * right one, for any input, is in docs/DEFINITION.md.
  *
  *    1  table cut short                      9  a field that the kind does not list, or out of its range
- *    2  table's mark or version             10  children missing or nodes left over
+ *    2  table's mark, or not version 2      10  children missing or nodes left over
  *    3  table's columns or rows             11  no such table
  *    4  cell code                           12  an id twice, above 255, or not in view
  *    5  bytes after 8 tables                13  a row over 32 columns
  *    6  plan's length                       14  a bound over 4,096 rows
- *    7  plan's mark or version              15  output short
+ *    7  plan's mark, or not version 2       15  output short
  *    8  node count                          16  scratch below the need; tested before 15
  *
  * A refused call leaves its outputs as they were. Unwritten output keeps its elements. Scratch is untouched after 1 to 14 and all zero
- * after every other end. The need is at most 8,392,704 cells: 4,096, and for each of up to 64 nodes no more than its row bound times its columns.
+ * after every other end. It is of cells of 64 bits, and counted in them. The need is at most 8,392,704 cells: 4,096, and for each of up to 64
+ * nodes no more than its row bound times its columns.
  */
 #ifndef CLUB_H
 #define CLUB_H
@@ -34,25 +38,25 @@ extern "C" {
 #endif
 
 /* A cell of a report that is no number. */
-#define CLUB_BLANK INT32_MIN
-#define CLUB_OFF_SCALE INT32_MAX
+#define CLUB_BLANK INT64_MIN
+#define CLUB_OFF_SCALE INT64_MAX
 
 /* The report of a plan over a set of tables: its codes row by row at the front of out.
  * Gives refusal + 2^8 * columns + 2^16 * rows. A report has at most 4,096 rows of at most 32 columns. */
 uint64_t club_report(const uint8_t *set, size_t set_len, const uint8_t *plan, size_t plan_len,
-                     int32_t *out, size_t out_len, uint32_t *scratch, size_t scratch_len);
+                     int64_t *out, size_t out_len, uint64_t *scratch, size_t scratch_len);
 
 /* The plan with every unnesting done that fits, at the front of out_plan, and the steps at the front of out_steps, two bytes each: the
- * rule, 1 to 8, and the place before the step. 1,542 bytes hold any plan, 384 the steps from any.
+ * rule, 1 to 8, and the place before the step. 2,054 bytes hold any plan, 384 the steps from any.
  * Gives refusal + 2^8 * steps + 2^24 * bytes of the plan. Its 16 looks at every plan passed through. */
 uint64_t club_unnest(const uint8_t *set, size_t set_len, const uint8_t *plan, size_t plan_len,
                      uint8_t *out_plan, size_t out_plan_len, uint8_t *out_steps, size_t out_steps_len,
-                     uint32_t *scratch, size_t scratch_len);
+                     uint64_t *scratch, size_t scratch_len);
 
 /* The smallest position, from 0, at which the two sequences differ that keep U3, U4 or U6 from fitting at a place, or at which just one
  * of them has ended. Gives the refusal (1 to 14, or 16), or 2^8 + 2^16 * position, or 0 where no note is due. */
 uint64_t club_stay_note(const uint8_t *set, size_t set_len, const uint8_t *plan, size_t plan_len,
-                        size_t place, uint32_t *scratch, size_t scratch_len);
+                        size_t place, uint64_t *scratch, size_t scratch_len);
 
 /* The parts of a word. */
 static inline unsigned club_refusal(uint64_t word) { return (unsigned)(word & 0xff); }

@@ -2,6 +2,7 @@
 
 use second::archive;
 use second::calls::{need_of, unnest_need};
+use second::nodes::LARGEST_PLAN;
 use std::ffi::{c_int, c_long};
 use std::hint::black_box;
 use std::time::{Duration, Instant};
@@ -53,8 +54,8 @@ impl Clock {
 pub struct Report<'b> {
     set: &'b [u8],
     plan: &'b [u8],
-    out: Vec<i32>,
-    scratch: Vec<u32>,
+    out: Vec<i64>,
+    scratch: Vec<u64>,
     cells: usize,
     pub columns: usize,
 }
@@ -76,13 +77,13 @@ impl<'b> Report<'b> {
     }
 
     /// The codes that it left.
-    pub fn codes(&self) -> &[i32] {
+    pub fn codes(&self) -> &[i64] {
         &self.out[..self.cells]
     }
 
     /// The rows that it left.
-    pub fn rows(&self) -> Vec<Vec<i32>> {
-        self.codes().chunks(self.columns).map(<[i32]>::to_vec).collect()
+    pub fn rows(&self) -> Vec<Vec<i64>> {
+        self.codes().chunks(self.columns).map(<[i64]>::to_vec).collect()
     }
 
     /// The time of the call.
@@ -98,7 +99,7 @@ pub fn steps(set: &[u8], plan: &[u8]) -> Vec<(u8, u8)> {
 
 /// The time of the unnesting call.
 pub fn unnesting_time(set: &[u8], plan: &[u8], clock: Clock) -> f64 {
-    let (mut out_plan, mut out_steps) = ([0; 1542], [0; 384]);
+    let (mut out_plan, mut out_steps) = ([0; LARGEST_PLAN], [0; 384]);
     let mut scratch = vec![0; unnest_need(set, plan).expect("an accepted plan") as usize];
     clock.time(|| {
         let word = archive::unnest_in(black_box(set), black_box(plan), &mut out_plan, &mut out_steps, &mut scratch);

@@ -22,16 +22,16 @@ use sums::{fold, group, pair};
 
 /// Rows one after another, each so wide.
 pub struct Rows<'t> {
-    pub cells: Cow<'t, [i32]>,
+    pub cells: Cow<'t, [i64]>,
     width: usize,
 }
 
 impl<'t> Rows<'t> {
-    fn new(cells: Vec<i32>, width: usize) -> Rows<'t> {
+    fn new(cells: Vec<i64>, width: usize) -> Rows<'t> {
         Rows { cells: Cow::Owned(cells), width }
     }
 
-    fn iter(&self) -> impl Iterator<Item = &[i32]> {
+    fn iter(&self) -> impl Iterator<Item = &[i64]> {
         self.cells.chunks_exact(self.width)
     }
 
@@ -40,7 +40,7 @@ impl<'t> Rows<'t> {
     }
 
     /// The rows that are wanted.
-    fn kept(&self, wanted: impl Fn(&[i32]) -> bool) -> Rows<'t> {
+    fn kept(&self, wanted: impl Fn(&[i64]) -> bool) -> Rows<'t> {
         let mut cells = Vec::with_capacity(self.cells.len());
         for row in self.iter().filter(|row| wanted(row)) {
             cells.extend_from_slice(row);
@@ -49,7 +49,7 @@ impl<'t> Rows<'t> {
     }
 
     /// Each row with one cell more.
-    fn with_cell(&self, cell: impl Fn(&[i32]) -> i32) -> Rows<'t> {
+    fn with_cell(&self, cell: impl Fn(&[i64]) -> i64) -> Rows<'t> {
         let mut cells = Vec::with_capacity(self.cells.len() + self.count());
         for row in self.iter() {
             cells.extend_from_slice(row);
@@ -60,12 +60,12 @@ impl<'t> Rows<'t> {
 }
 
 /// The cells of tables, a buffer for each.
-pub fn flat(tables: &[Table]) -> Vec<Vec<i32>> {
+pub fn flat(tables: &[Table]) -> Vec<Vec<i64>> {
     tables.iter().map(|table| table.rows.concat()).collect()
 }
 
 /// Gives rows within outer rows, whose cells stand one after another.
-type Run<'t> = Box<dyn Fn(&[i32]) -> Rows<'t> + 't>;
+type Run<'t> = Box<dyn Fn(&[i64]) -> Rows<'t> + 't>;
 
 /// A plan made ready: the ids of its columns, and what gives its rows.
 pub struct Prepared<'t> {
@@ -83,12 +83,12 @@ impl<'t> Prepared<'t> {
 /// Where a plan stands: over tables, and within rows of these columns.
 struct View<'t, 'v> {
     tables: &'t [Table],
-    flat: &'t [Vec<i32>],
+    flat: &'t [Vec<i64>],
     outer: &'v [u8],
 }
 
 /// Makes a whole plan ready. The cells are those of the tables.
-pub fn prepare<'t>(plan: &Plan, tables: &'t [Table], flat: &'t [Vec<i32>]) -> Prepared<'t> {
+pub fn prepare<'t>(plan: &Plan, tables: &'t [Table], flat: &'t [Vec<i64>]) -> Prepared<'t> {
     prepared(plan, &View { tables, flat, outer: &[] })
 }
 

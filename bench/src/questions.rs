@@ -15,16 +15,16 @@ pub struct Question {
 }
 
 /// A table of so many rows.
-fn of_rows(height: usize, mut row: impl FnMut(usize) -> Vec<i32>) -> Table {
-    let rows: Vec<Vec<i32>> = (0..height).map(&mut row).collect();
+fn of_rows(height: usize, mut row: impl FnMut(usize) -> Vec<i64>) -> Table {
+    let rows: Vec<Vec<i64>> = (0..height).map(&mut row).collect();
     Table { columns: rows[0].len(), rows }
 }
 
 /// Document 004, section 3.1: the books that have a review.
 pub fn with_review(height: usize) -> Question {
     let random = &mut Random::new(1);
-    let books = of_rows(height, |row| vec![row as i32]);
-    let reviews = of_rows(height, |_| vec![random.below(2 * height) as i32]);
+    let books = of_rows(height, |row| vec![row as i64]);
+    let reviews = of_rows(height, |_| vec![random.below(2 * height) as i64]);
     let plan = some(ALWAYS, scan(0, 0), select(columns_test(0, Equal, 1), scan(1, 1)));
     Question { name: "3.1 books with a review", tables: vec![books, reviews], plan }
 }
@@ -32,7 +32,7 @@ pub fn with_review(height: usize) -> Question {
 /// Section 3.2: the books that have a certain author. A row is a book and one of its two authors.
 pub fn with_author(height: usize) -> Question {
     let random = &mut Random::new(2);
-    let authors = of_rows(height, |row| vec![(row / 2) as i32, random.below(50) as i32]);
+    let authors = of_rows(height, |row| vec![(row / 2) as i64, random.below(50) as i64]);
     let inner = select(columns_test(0, Equal, 2), scan(0, 2));
     let plan = some(number_test(3, Equal, 7), distinct(&[0], scan(0, 0)), inner);
     Question { name: "3.2 books by an author", tables: vec![authors], plan }
@@ -41,7 +41,7 @@ pub fn with_author(height: usize) -> Question {
 /// Section 3.3: the authors whose books are all later than 1993. A row is an author and a year.
 pub fn later(height: usize) -> Question {
     let random = &mut Random::new(3);
-    let years = of_rows(height, |_| vec![random.below(height / 5) as i32, 1975 + random.below(30) as i32]);
+    let years = of_rows(height, |_| vec![random.below(height / 5) as i64, 1975 + random.below(30) as i64]);
     let inner = select(columns_test(0, Equal, 2), scan(0, 2));
     let plan = every(number_test(3, Greater, 1993), distinct(&[0], scan(0, 0)), inner);
     Question { name: "3.3 authors with late books only", tables: vec![years], plan }
@@ -49,7 +49,7 @@ pub fn later(height: usize) -> Question {
 
 /// The deepest plan, 63 Selects over a Scan, over the largest table.
 pub fn deepest() -> Question {
-    let table = of_rows(1000, |row| (0..16).map(|column| (row + column) as i32).collect());
+    let table = of_rows(1000, |row| (0..16).map(|column| (row + column) as i64).collect());
     let plan = (0..63).fold(scan(0, 0), |plan, _| select(ALWAYS, plan));
     Question { name: "63 Selects over a Scan of 16 columns", tables: vec![table], plan }
 }
@@ -69,14 +69,14 @@ fn sides(height: usize) -> Sides {
         return crossed(height);
     }
     let random = &mut Random::new(4);
-    let mut table = || of_rows(height, |_| vec![random.below(height / 3) as i32, random.below(1000) as i32]);
+    let mut table = || of_rows(height, |_| vec![random.below(height / 3) as i64, random.below(1000) as i64]);
     Sides { tables: vec![table(), table()], left: scan(0, 0), right: scan(1, 10), ids: vec![0, 1] }
 }
 
 /// The sides of 1,000, or of so many thousands, with a Cross also where it is one thousand.
 fn crossed(height: usize) -> Sides {
     let Sides { mut tables, left, right, .. } = sides(1000);
-    tables.push(of_rows(height / 1000, |row| vec![row as i32]));
+    tables.push(of_rows(height / 1000, |row| vec![row as i64]));
     Sides { tables, left: cross(left, scan(2, 2)), right: cross(right, scan(2, 12)), ids: vec![0, 1, 2] }
 }
 
@@ -130,17 +130,29 @@ pub fn more_kinds() -> Vec<Question> {
         semi_in_one_bucket(),
         of_table("Distinct, all rows different", different(), &distinct),
         of_table("Distinct, one bucket", in_one_bucket(), &distinct),
-        of_table("Sort, rows sorted", of_rows(1000, |row| vec![row as i32 / 3, row as i32]), &sorted),
-        of_table("Sort, rows reversed", of_rows(1000, |row| vec![333 - row as i32 / 3, 999 - row as i32]), &sorted),
+        of_table("Sort, rows sorted", of_rows(1000, |row| vec![row as i64 / 3, row as i64]), &sorted),
+        of_table("Sort, rows reversed", of_rows(1000, |row| vec![333 - row as i64 / 3, 999 - row as i64]), &sorted),
         of_table("Sort, rows equal", of_rows(1000, |_| vec![7, 500]), &sorted),
+        of_wide("Pair =, wide numbers", pair(Aggregate::Sum(11), 20, keys(0, Equal, 10), scan(0, 0), scan(1, 10))),
+        of_wide("Group =, wide numbers", group(Aggregate::Sum(1), 20, keys(21, Equal, 0), scan(0, 0))),
+        of_wide("Sort, wide numbers", sort(false, &[0, 1], scan(0, 0))),
     ]
+}
+
+/// A question over two tables of keys from end to end of the range, one for three rows, and numbers of up to 13 digits: the sum of 1,000 of
+/// them is in the range.
+fn of_wide(name: &'static str, plan: Plan) -> Question {
+    let random = &mut Random::new(9);
+    let mut key = |count: usize| random.below(count) as i64 - count as i64 / 2;
+    let mut table = || of_rows(1000, |_| vec![54_000_000_000_000 * key(333), key(18_000_000_000_000)]);
+    Question { name, tables: vec![table(), table()], plan }
 }
 
 /// Rows that differ in their key.
 fn different() -> Table {
     let random = &mut Random::new(5);
     // 617 has no divisor in common with 1,000, so each key comes once
-    of_rows(1000, |row| vec![(617 * row % 1000) as i32, random.below(1000) as i32])
+    of_rows(1000, |row| vec![(617 * row % 1000) as i64, random.below(1000) as i64])
 }
 
 /// Different rows that the library's hash puts into one bucket.
@@ -152,7 +164,7 @@ fn in_one_bucket() -> Table {
 fn semi_in_one_bucket() -> Question {
     let random = &mut Random::new(7);
     let keys = bucket::keys(random, 1500);
-    let mut side = |first: usize| of_rows(1000, |row| vec![keys[first + row], random.below(1000) as i32]);
+    let mut side = |first: usize| of_rows(1000, |row| vec![keys[first + row], random.below(1000) as i64]);
     let tables = vec![side(0), side(500)];
     Question {
         name: "Semi, one bucket",
@@ -170,9 +182,9 @@ pub fn in_sql(name: &str) -> &'static str {
         "Every" => "SELECT k, v FROM a WHERE NOT EXISTS (SELECT 1 FROM b WHERE b.k = a.k AND NOT b.v > 500)",
         "Semi" | "Semi, one bucket" => "SELECT k, v FROM a WHERE k IN (SELECT k FROM b WHERE v > 500)",
         "Anti" => "SELECT k, v FROM a WHERE k NOT IN (SELECT k FROM b WHERE v > 500)",
-        "Pair =" => "SELECT a.k, a.v, coalesce(t.s, 0) FROM a LEFT JOIN (SELECT k, sum(v) AS s FROM b GROUP BY k) t ON t.k = a.k",
+        "Pair =" | "Pair =, wide numbers" => "SELECT a.k, a.v, coalesce(t.s, 0) FROM a LEFT JOIN (SELECT k, sum(v) AS s FROM b GROUP BY k) t ON t.k = a.k",
         "Pair <" => "SELECT k, v, (SELECT coalesce(sum(b.v), 0) FROM b WHERE a.k < b.k) FROM a",
-        "Group =" => "SELECT k, sum(v) FROM a GROUP BY k",
+        "Group =" | "Group =, wide numbers" => "SELECT k, sum(v) FROM a GROUP BY k",
         "Group <" => "SELECT k, (SELECT coalesce(sum(a.v), 0) FROM a WHERE t.k < a.k) FROM (SELECT DISTINCT k FROM a) t",
         _ if name.starts_with("Distinct") => "SELECT DISTINCT k, v FROM a",
         _ if name.starts_with("Sort") => "SELECT k, v FROM a ORDER BY k, v",
@@ -183,8 +195,8 @@ pub fn in_sql(name: &str) -> &'static str {
 /// Questions whose inner plan names no column of the left row, so that it gives the same rows for each.
 pub fn closed() -> Vec<Question> {
     let random = &mut Random::new(8);
-    let left = of_rows(1000, |_| vec![random.below(333) as i32, random.below(1000) as i32]);
-    let right = of_rows(1000, |_| vec![random.below(333) as i32, random.below(500) as i32]);
+    let left = of_rows(1000, |_| vec![random.below(333) as i64, random.below(1000) as i64]);
+    let right = of_rows(1000, |_| vec![random.below(333) as i64, random.below(500) as i64]);
     let question = |name, plan| Question { name, tables: vec![left.clone(), right.clone()], plan };
     let same_key = columns_test(0, Equal, 10);
     vec![
@@ -198,7 +210,7 @@ pub fn closed() -> Vec<Question> {
 
 /// Some over Some over Some over Some, each over a Scan of 8 rows. The innermost plan is a Scan of 1,000, of which only the last row passes.
 fn four_deep(name: &'static str, innermost: Test) -> Question {
-    let tables = vec![of_rows(8, |row| vec![row as i32]), of_rows(1000, |row| vec![if row < 999 { -1 } else { 99 }])];
+    let tables = vec![of_rows(8, |row| vec![row as i64]), of_rows(1000, |row| vec![if row < 999 { -1 } else { 99 }])];
     let fourth = some(innermost, scan(0, 30), scan(1, 40));
     let plan = some(ALWAYS, scan(0, 0), some(ALWAYS, scan(0, 10), some(ALWAYS, scan(0, 20), fourth)));
     Question { name, tables, plan }

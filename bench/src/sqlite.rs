@@ -17,7 +17,7 @@ type Open = unsafe extern "C" fn(*const c_char, *mut *mut c_void) -> c_int;
 type Exec = unsafe extern "C" fn(*mut c_void, *const c_char, *mut c_void, *mut c_void, *mut c_void) -> c_int;
 type Prepare = unsafe extern "C" fn(*mut c_void, *const c_char, c_int, *mut *mut c_void, *mut c_void) -> c_int;
 type OfStatement = unsafe extern "C" fn(*mut c_void) -> c_int;
-type OfColumn = unsafe extern "C" fn(*mut c_void, c_int) -> c_int;
+type OfColumn = unsafe extern "C" fn(*mut c_void, c_int) -> i64;
 type Version = unsafe extern "C" fn() -> *const c_char;
 
 /// The library, and one database in memory.
@@ -51,7 +51,7 @@ impl Sqlite {
                 prepare: std::mem::transmute::<*mut c_void, Prepare>(named(c"sqlite3_prepare_v2")?),
                 step: std::mem::transmute::<*mut c_void, OfStatement>(named(c"sqlite3_step")?),
                 reset: std::mem::transmute::<*mut c_void, OfStatement>(named(c"sqlite3_reset")?),
-                column: std::mem::transmute::<*mut c_void, OfColumn>(named(c"sqlite3_column_int")?),
+                column: std::mem::transmute::<*mut c_void, OfColumn>(named(c"sqlite3_column_int64")?),
                 columns: std::mem::transmute::<*mut c_void, OfStatement>(named(c"sqlite3_column_count")?),
                 version: std::mem::transmute::<*mut c_void, Version>(named(c"sqlite3_libversion")?),
             })
@@ -92,7 +92,7 @@ impl Sqlite {
     }
 
     /// All rows of a prepared question.
-    pub fn rows(&self, statement: *mut c_void) -> Vec<Vec<i32>> {
+    pub fn rows(&self, statement: *mut c_void) -> Vec<Vec<i64>> {
         let mut all = Vec::new();
         // The statement comes from `prepare` of this database.
         unsafe {

@@ -149,12 +149,12 @@ fn beside_plain(section: &mut Section, question: &Question, report: &mut Report,
 }
 
 /// The time of a question in SQL, whose rows must be these in some order.
-fn sqlite_time(database: &Sqlite, indexed: bool, question: &Question, given: &[Vec<i32>], clock: Clock) -> f64 {
+fn sqlite_time(database: &Sqlite, indexed: bool, question: &Question, given: &[Vec<i64>], clock: Clock) -> f64 {
     for (name, table) in ["a", "b"].iter().zip(&question.tables) {
         database.fill(name, table, indexed);
     }
     let statement = database.prepare(in_sql(question.name));
-    let sorted = |mut rows: Vec<Vec<i32>>| {
+    let sorted = |mut rows: Vec<Vec<i64>>| {
         rows.sort();
         rows
     };

@@ -1,11 +1,12 @@
 /* Prints what the calls of club.h answer for a set and a plan, whose files are the two arguments. */
 #include "club.h"
 
+#include <inttypes.h>
 #include <stdio.h>
 
-static uint8_t set[600000], plan[2000], out_plan[1542], out_steps[384];
-static int32_t out[4096 * 32];
-static uint32_t scratch[1000000];
+static uint8_t set[1100000], plan[2500], out_plan[2054], out_steps[384];
+static int64_t out[4096 * 32];
+static uint64_t scratch[1000000];
 
 /* Reads a file; one that is not there counts as empty. */
 static size_t read_file(const char *name, uint8_t *to, size_t room)
@@ -26,7 +27,7 @@ static void print_report(size_t set_len, size_t plan_len)
     size_t cell, cells = club_rows(word) * club_columns(word);
     printf("report refusal %u rows %zu columns %zu:", club_refusal(word), club_rows(word), club_columns(word));
     for (cell = 0; cell < cells; cell++)
-        printf(" %ld", (long)out[cell]);
+        printf(" %" PRId64, out[cell]);
     printf("\n");
 }
 

@@ -2,6 +2,7 @@
 //!
 //! Each buffer stands between canaries and is full of noise before the call. What a call may not change is compared with what it was.
 
+use crate::nodes::LARGEST_PLAN;
 use crate::random::Random;
 
 extern "C" {
@@ -10,9 +11,9 @@ extern "C" {
         set_len: usize,
         plan: *const u8,
         plan_len: usize,
-        out: *mut i32,
+        out: *mut i64,
         out_len: usize,
-        scratch: *mut u32,
+        scratch: *mut u64,
         scratch_len: usize,
     ) -> u64;
     fn club_unnest(
@@ -24,7 +25,7 @@ extern "C" {
         out_plan_len: usize,
         out_steps: *mut u8,
         out_steps_len: usize,
-        scratch: *mut u32,
+        scratch: *mut u64,
         scratch_len: usize,
     ) -> u64;
     fn club_stay_note(
@@ -33,13 +34,13 @@ extern "C" {
         plan: *const u8,
         plan_len: usize,
         place: usize,
-        scratch: *mut u32,
+        scratch: *mut u64,
         scratch_len: usize,
     ) -> u64;
 }
 
 /// The reporting call on slices: its word.
-pub fn report_in(set: &[u8], plan: &[u8], out: &mut [i32], scratch: &mut [u32]) -> u64 {
+pub fn report_in(set: &[u8], plan: &[u8], out: &mut [i64], scratch: &mut [u64]) -> u64 {
     // Each pointer is to so many elements as told, and no two slices overlap.
     unsafe {
         club_report(
@@ -56,7 +57,7 @@ pub fn report_in(set: &[u8], plan: &[u8], out: &mut [i32], scratch: &mut [u32]) 
 }
 
 /// The unnesting call on slices: its word.
-pub fn unnest_in(set: &[u8], plan: &[u8], out_plan: &mut [u8], out_steps: &mut [u8], scratch: &mut [u32]) -> u64 {
+pub fn unnest_in(set: &[u8], plan: &[u8], out_plan: &mut [u8], out_steps: &mut [u8], scratch: &mut [u64]) -> u64 {
     // As in `report_in`.
     unsafe {
         club_unnest(
@@ -75,7 +76,7 @@ pub fn unnest_in(set: &[u8], plan: &[u8], out_plan: &mut [u8], out_steps: &mut [
 }
 
 /// The stay note call on slices: its word.
-pub fn stay_note_in(set: &[u8], plan: &[u8], place: usize, scratch: &mut [u32]) -> u64 {
+pub fn stay_note_in(set: &[u8], plan: &[u8], place: usize, scratch: &mut [u64]) -> u64 {
     // As in `report_in`.
     unsafe {
         club_stay_note(set.as_ptr(), set.len(), plan.as_ptr(), plan.len(), place, scratch.as_mut_ptr(), scratch.len())
@@ -84,7 +85,7 @@ pub fn stay_note_in(set: &[u8], plan: &[u8], place: usize, scratch: &mut [u32]) 
 
 /// The steps by which the archive unnests a plan that it accepts.
 pub fn steps(set: &[u8], plan: &[u8], scratch_cells: usize) -> Vec<(u8, u8)> {
-    let (mut out_plan, mut out_steps, mut scratch) = ([0; 1542], [0; 384], vec![0; scratch_cells]);
+    let (mut out_plan, mut out_steps, mut scratch) = ([0; LARGEST_PLAN], [0; 384], vec![0; scratch_cells]);
     let word = unnest_in(set, plan, &mut out_plan, &mut out_steps, &mut scratch);
     assert_eq!(word & 0xff, 0, "a plan that is accepted");
     let count = (word >> 8 & 0xffff) as usize;
@@ -143,7 +144,7 @@ impl<T: Copy + PartialEq> Lent<T> {
     }
 }
 
-impl Lent<u32> {
+impl Lent<u64> {
     /// Checks scratch: untouched after 1 to 14, all zero after every other end.
     fn left_as_promised(&self, refusal: u64) -> Result<(), String> {
         if (1..=14).contains(&refusal) {
@@ -178,13 +179,13 @@ fn byte(bits: u64) -> u8 {
     bits as u8
 }
 
-fn code(bits: u64) -> i32 {
-    bits as i32
+fn code(bits: u64) -> i64 {
+    bits as i64
 }
 
 /// A cell of noise, never 0, so that a cell that was not cleared shows.
-fn cell(bits: u64) -> u32 {
-    bits as u32 | 1
+fn cell(bits: u64) -> u64 {
+    bits | 1
 }
 
 /// The reporting call: its word, and the codes that it wrote, so many as it says. Anything else that it wrote is an error.
@@ -194,7 +195,7 @@ pub fn report(
     plan: &[u8],
     out_cells: usize,
     scratch_cells: usize,
-) -> Result<(u64, Vec<i32>), String> {
+) -> Result<(u64, Vec<i64>), String> {
     let input = Input::new(random, set, plan);
     let mut out = Lent::of_noise(random, out_cells, code);
     let mut scratch = Lent::of_noise(random, scratch_cells, cell);

@@ -4,25 +4,25 @@ use crate::plan::{Aggregate, Comparison, Form, Keys, Plan, Test, ALWAYS};
 use crate::tables::Table;
 
 /// A table of these rows; with no rows it has one column.
-pub fn table(rows: &[&[i32]]) -> Table {
+pub fn table(rows: &[&[i64]]) -> Table {
     let columns = rows.first().map_or(1, |row| row.len());
     Table { columns, rows: rows.iter().map(|row| row.to_vec()).collect() }
 }
 
 /// A table of one column.
-pub fn one_column(codes: &[i32]) -> Table {
+pub fn one_column(codes: &[i64]) -> Table {
     Table { columns: 1, rows: codes.iter().map(|&code| vec![code]).collect() }
 }
 
 /// A table of a size, with small numbers in it.
 pub fn sized(columns: usize, height: usize) -> Table {
-    let cell = |row: usize, column: usize| ((row + 3 * column) % 7) as i32;
+    let cell = |row: usize, column: usize| ((row + 3 * column) % 7) as i64;
     let rows = (0..height).map(|row| (0..columns).map(|column| cell(row, column)).collect()).collect();
     Table { columns, rows }
 }
 
 /// Cards: a player, 1 if the card counts or else 0, and a score. Those that count come first, round by round.
-pub fn cards(counted: &[(i32, &[i32])], not_counted: &[(i32, i32)]) -> Table {
+pub fn cards(counted: &[(i64, &[i64])], not_counted: &[(i64, i64)]) -> Table {
     let longest = counted.iter().map(|(_, scores)| scores.len()).max().unwrap_or(0);
     let mut rows = Vec::new();
     for round in 0..longest {
@@ -40,7 +40,7 @@ pub fn columns_test(left: u8, comparison: Comparison, right: u8) -> Test {
 }
 
 /// A test of a column with a number.
-pub fn number_test(left: u8, comparison: Comparison, number: i32) -> Test {
+pub fn number_test(left: u8, comparison: Comparison, number: i64) -> Test {
     Test { form: Form::Number(comparison, left, number), not: false }
 }
 

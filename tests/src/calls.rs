@@ -4,11 +4,12 @@
 
 use crate::cells::{BLANK, OFF_SCALE};
 use crate::check::{columns, need, read_plan};
-use crate::evaluate::rows;
+use crate::evaluate::{Evaluator, Left};
 use crate::nodes::write_plan;
 use crate::plan::Plan;
 use crate::rules::{first_fit, stay_position, try_step};
 use crate::tables::{read_set, Table};
+use crate::version::{Version, VERSION_2};
 
 /// Enough room for any call.
 pub const ROOMY: usize = usize::MAX;
@@ -18,7 +19,7 @@ pub const ROOMY: usize = usize::MAX;
 pub struct Report {
     pub rows: usize,
     pub columns: usize,
-    pub codes: Vec<i32>,
+    pub codes: Vec<i64>,
 }
 
 /// A plan left by unnesting, with its steps (rule, place before the step).
@@ -28,10 +29,15 @@ pub struct Unnested {
     pub plan: Vec<u8>,
 }
 
-/// Reads a set and a plan: refusals 1 to 14, or the tables and the tree.
+/// Reads a set and a plan of version 2: refusals 1 to 14, or the tables and the tree.
 pub fn read(set: &[u8], plan: &[u8]) -> Result<(Vec<Table>, Plan), u8> {
-    let tables = read_set(set)?;
-    let tree = read_plan(plan, &tables)?;
+    read_in(&VERSION_2, set, plan)
+}
+
+/// Reads a set and a plan of a version, the set before the plan.
+pub fn read_in(version: &Version, set: &[u8], plan: &[u8]) -> Result<(Vec<Table>, Plan), u8> {
+    let tables = read_set(version, set)?;
+    let tree = read_plan(version, plan, &tables)?;
     Ok((tables, tree))
 }
 
@@ -63,10 +69,17 @@ impl Unnested {
     }
 }
 
-/// The report of a tree over its tables, without any limit of room.
+/// The report of a tree over its tables, in version 2, without any limit of room.
 pub fn report_of(tree: &Plan, tables: &[Table]) -> Report {
-    let rows = rows(tree, tables, None);
-    Report { rows: rows.len(), columns: columns(tree, tables).len(), codes: rows.concat() }
+    report_in(VERSION_2, tree, tables).0
+}
+
+/// The report in a version, its cells as they are held in memory; and the sums that left a range.
+pub fn report_in(version: Version, tree: &Plan, tables: &[Table]) -> (Report, Left) {
+    let evaluator = Evaluator::new(version, tables);
+    let rows = evaluator.rows(tree, None);
+    let report = Report { rows: rows.len(), columns: columns(tree, tables).len(), codes: rows.concat() };
+    (report, evaluator.left())
 }
 
 /// The reporting call: refusals 1 to 14, then 16, then 15, or the report.
@@ -198,7 +211,7 @@ pub fn listing(set: &[u8], plan: &[u8], scratch_cells: usize) -> String {
 }
 
 /// A cell as the listing prints it.
-pub fn cell_text(code: i32) -> String {
+pub fn cell_text(code: i64) -> String {
     match code {
         BLANK => "-".to_string(),
         OFF_SCALE => "+".to_string(),

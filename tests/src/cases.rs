@@ -9,6 +9,8 @@ use crate::nodes::write_plan;
 use crate::plan::Plan;
 use crate::random::Random;
 use crate::tables::write_set;
+use crate::version::{Version, VERSION_1, VERSION_2};
+use crate::wide::narrowed;
 
 /// One set and plan.
 pub struct Case {
@@ -69,7 +71,7 @@ fn accepted_case(input: &Input) -> Case {
 fn small(random: &mut Random) -> Input {
     loop {
         let input = accepted(random);
-        if input.plan.size() <= 24 && input.set_bytes().len() <= 600 {
+        if input.plan.size() <= 24 && input.set_bytes().len() <= 1_200 {
             return input;
         }
     }
@@ -86,7 +88,14 @@ pub fn fault_case(random: &mut Random, fault: &Fault) -> Case {
 
 /// The same with one random input; none if the faults do not suit it.
 pub fn damaged_once(random: &mut Random, faults: &[&Fault]) -> Option<Case> {
-    let (set, plan) = damaged(&small(random), faults, random)?;
+    damaged_once_in(VERSION_2, random, faults)
+}
+
+/// The same in a version. Of version 1 there are only inputs whose numbers it has.
+pub fn damaged_once_in(version: Version, random: &mut Random, faults: &[&Fault]) -> Option<Case> {
+    let input = small(random);
+    let input = if version == VERSION_1 { narrowed(input) } else { input };
+    let (set, plan) = damaged(version, &input, faults, random)?;
     let routes = faults.iter().map(|fault| format!("{} {}", fault.number, fault.name)).collect();
     Some(Case { routes, expected: deciding(faults), set, plan })
 }

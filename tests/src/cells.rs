@@ -1,18 +1,15 @@
-//! Cells: numbers, blank, off scale, each as a signed 32-bit code.
+//! Cells: numbers, blank, off scale, each held as the signed 64-bit code that it has in version 2.
 
-/// The code of a blank cell.
-pub const BLANK: i32 = i32::MIN;
-/// The code of an off-scale cell.
-pub const OFF_SCALE: i32 = i32::MAX;
-/// The largest number a cell may hold; the least is its negative.
-pub const LARGEST: i32 = 2_000_000_000;
+use crate::version::VERSION_2;
 
-/// Whether the code is a number of the cell range.
-pub fn is_number(code: i32) -> bool {
-    (-LARGEST..=LARGEST).contains(&code)
-}
+/// A blank cell.
+pub const BLANK: i64 = i64::MIN;
+/// An off-scale cell.
+pub const OFF_SCALE: i64 = i64::MAX;
+/// The largest number that a cell of version 2 may hold; the least is its negative.
+pub const LARGEST: i64 = VERSION_2.largest;
 
-/// Whether the code may stand in a table.
-pub fn is_cell(code: i32) -> bool {
-    is_number(code) || code == BLANK || code == OFF_SCALE
+/// Whether a cell is a number of version 2's range.
+pub fn is_number(cell: i64) -> bool {
+    VERSION_2.has_number(cell)
 }

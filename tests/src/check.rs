@@ -3,10 +3,11 @@
 use crate::nodes::read_tree;
 use crate::plan::Plan;
 use crate::tables::Table;
+use crate::version::Version;
 
-/// Reads a plan over tables already read: refusals 6 to 14.
-pub fn read_plan(bytes: &[u8], tables: &[Table]) -> Result<Plan, u8> {
-    let plan = read_tree(bytes)?;
+/// Reads a plan of a version over tables already read: refusals 6 to 14.
+pub fn read_plan(version: &Version, bytes: &[u8], tables: &[Table]) -> Result<Plan, u8> {
+    let plan = read_tree(version, bytes)?;
     check_tree(&plan, tables)?;
     Ok(plan)
 }

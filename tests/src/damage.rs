@@ -6,10 +6,11 @@
 use crate::build::{every, scan, sized, some};
 use crate::check::introduced;
 use crate::generate::Input;
-use crate::nodes::{bytes_of, listed, write_node, Field, NODE};
+use crate::nodes::{bytes_of, listed, write_node, write_nodes, Field};
 use crate::plan::{Plan, ALWAYS};
 use crate::random::Random;
 use crate::tables::{write_table, Table};
+use crate::version::{Version, VERSION_1, VERSION_2};
 
 mod faults;
 
@@ -18,10 +19,11 @@ pub use faults::{faults, set_pairs};
 /// An input being damaged. Faults act on the tree first, then on the nodes' bytes, then on the
 /// plan's bytes; the set's bytes are kept table by table.
 pub struct Draft {
+    version: Version,
     tables: Vec<Table>,
     plan: Plan,
     taken: Vec<usize>,
-    nodes: Vec<[u8; NODE]>,
+    nodes: Vec<Vec<u8>>,
     bytes: Vec<u8>,
     parts: Vec<Vec<u8>>,
 }
@@ -56,9 +58,10 @@ enum Apply {
     Change(fn(&mut Draft, &mut Random) -> Option<()>),
 }
 
-/// The bytes of an input with these faults in it; none if one of them does not suit the input.
-pub fn damaged(input: &Input, faults: &[&Fault], random: &mut Random) -> Option<(Vec<u8>, Vec<u8>)> {
+/// The bytes, in a version, of an input with these faults in it; none if one of them does not suit the input.
+pub fn damaged(version: Version, input: &Input, faults: &[&Fault], random: &mut Random) -> Option<(Vec<u8>, Vec<u8>)> {
     let mut draft = Draft {
+        version,
         tables: input.tables.clone(),
         plan: input.plan.clone(),
         taken: introduced(&input.plan, &input.tables),
@@ -89,13 +92,11 @@ impl Draft {
     fn enter(&mut self, stage: Stage) {
         match stage {
             Stage::Tree => {}
-            Stage::Nodes => self.nodes = self.plan.nodes().into_iter().map(write_node).collect(),
-            Stage::Header => {
-                self.bytes = b"RPT\x01\x00".to_vec();
-                self.bytes.push(self.nodes.len() as u8);
-                self.bytes.extend(self.nodes.concat());
+            Stage::Nodes => {
+                self.nodes = self.plan.nodes().into_iter().map(|node| write_node(&self.version, node)).collect()
             }
-            Stage::Set => self.parts = self.tables.iter().map(write_table).collect(),
+            Stage::Header => self.bytes = write_nodes(&self.version, &self.nodes),
+            Stage::Set => self.parts = self.tables.iter().map(|table| write_table(&self.version, table)).collect(),
         }
     }
 
@@ -141,8 +142,8 @@ impl Draft {
     }
 
     /// A random node that lists a field, and for which more holds.
-    fn node(&mut self, random: &mut Random, field: Field, more: fn(&[u8; NODE]) -> bool) -> Option<&mut [u8; NODE]> {
-        let lists = |node: &[u8; NODE]| listed(node[0]).is_some_and(|fields| fields.contains(&field));
+    fn node(&mut self, random: &mut Random, field: Field, more: fn(&[u8]) -> bool) -> Option<&mut Vec<u8>> {
+        let lists = |node: &[u8]| listed(node[0]).is_some_and(|fields| fields.contains(&field));
         let places: Vec<usize> =
             (0..self.nodes.len()).filter(|&place| lists(&self.nodes[place]) && more(&self.nodes[place])).collect();
         if places.is_empty() {
@@ -153,8 +154,9 @@ impl Draft {
     }
 
     /// A random node that does not list a field.
-    fn node_without(&mut self, random: &mut Random, field: Field) -> Option<&mut [u8; NODE]> {
-        let lacks = |node: &[u8; NODE]| {
+    fn node_without(&mut self, random: &mut Random, field: Field) -> Option<&mut Vec<u8>> {
+        let bytes_of = |field| bytes_of(&self.version, field);
+        let lacks = |node: &[u8]| {
             listed(node[0]).is_some_and(|fields| fields.iter().all(|&own| bytes_of(own) != bytes_of(field)))
         };
         let places: Vec<usize> = (0..self.nodes.len()).filter(|&place| lacks(&self.nodes[place])).collect();
@@ -170,7 +172,7 @@ impl Draft {
         &mut self,
         random: &mut Random,
         field: Field,
-        more: fn(&[u8; NODE]) -> bool,
+        more: fn(&[u8]) -> bool,
         place: usize,
         byte: u8,
     ) -> Option<()> {
@@ -180,19 +182,33 @@ impl Draft {
 
     /// Changes a byte of a random node that does not list its field.
     fn unlisted(&mut self, random: &mut Random, field: Field, place: usize, byte: u8) -> Option<()> {
-        self.node_without(random, field)?[place] = byte;
+        *self.node_without(random, field)?.get_mut(place)? = byte;
         Some(())
     }
 
-    /// Changes the number of a random test that has one.
-    fn test_number(&mut self, random: &mut Random, number: i32) -> Option<()> {
+    /// Changes a byte, among those that version 2 has more than version 1, of a random test for which more holds.
+    fn wide_test(&mut self, random: &mut Random, more: fn(&[u8]) -> bool, place: usize, byte: u8) -> Option<()> {
+        *self.node(random, Field::Test, more)?.get_mut(place)? = byte;
+        Some(())
+    }
+
+    /// Changes the number of a random test that has one, to one that is given by the version.
+    fn test_number(&mut self, random: &mut Random, number: fn(&Version) -> i64) -> Option<()> {
+        let version = self.version;
         let node = self.node(random, Field::Test, |node| node[16] == 2)?;
-        node[20..24].copy_from_slice(&number.to_le_bytes());
+        node[20..20 + version.cell].copy_from_slice(&version.write_code(number(&version)));
+        Some(())
+    }
+
+    /// Changes a byte of any node.
+    fn any_node(&mut self, random: &mut Random, place: usize, byte: u8) -> Option<()> {
+        let node = random.below(self.nodes.len());
+        *self.nodes[node].get_mut(place)? = byte;
         Some(())
     }
 
     /// Makes these the plan's nodes.
-    fn only_nodes(&mut self, nodes: Vec<[u8; NODE]>) -> Option<()> {
+    fn only_nodes(&mut self, nodes: Vec<Vec<u8>>) -> Option<()> {
         self.nodes = nodes;
         Some(())
     }
@@ -227,10 +243,36 @@ impl Draft {
         Some(())
     }
 
+    /// The version that the input is not of.
+    fn other(&self) -> Version {
+        if self.version == VERSION_1 {
+            VERSION_2
+        } else {
+            VERSION_1
+        }
+    }
+
+    /// A table of so many columns and rows, written.
+    fn written(&self, columns: usize, height: usize) -> Vec<u8> {
+        write_table(&self.version, &sized(columns, height))
+    }
+
+    /// The header of a table.
+    fn header(&self, columns: u8, rows: u16) -> Vec<u8> {
+        header(&self.version, b"TBL", columns, rows)
+    }
+
+    /// A node of a kind whose other bytes are all zero.
+    fn of_kind(&self, kind: u8) -> Vec<u8> {
+        let mut node = vec![0; self.version.node];
+        node[0] = kind;
+        node
+    }
+
     /// A random part that has a whole header; a set without tables gets one.
     fn part(&mut self, random: &mut Random) -> Option<&mut Vec<u8>> {
         if self.parts.is_empty() {
-            self.parts.push(write_table(&sized(2, 2)));
+            self.parts.push(self.written(2, 2));
         }
         let place = random.below(self.parts.len());
         Some(&mut self.parts[place]).filter(|part| part.len() >= 8)
@@ -239,7 +281,7 @@ impl Draft {
     /// The last table's bytes, a new table with cells if it can be added.
     fn last_with_cells(&mut self) -> Option<&mut Vec<u8>> {
         if self.parts.len() < 8 {
-            self.parts.push(write_table(&sized(2, 2)));
+            self.parts.push(self.written(2, 2));
         }
         self.parts.last_mut().filter(|part| part.len() > 8)
     }
@@ -256,23 +298,28 @@ impl Draft {
     /// Fills the set up to eight tables and puts bytes after them.
     fn after_eight(&mut self, bytes: &[u8]) -> Option<()> {
         while self.parts.len() < 8 {
-            self.parts.push(write_table(&sized(1, 1)));
+            self.parts.push(self.written(1, 1));
         }
         self.parts.push(bytes.to_vec());
         Some(())
     }
 
-    /// Changes one cell of a random table with cells.
-    fn cell(&mut self, random: &mut Random, code: i32) -> Option<()> {
+    /// Changes one cell of a random table with cells, to a code that is given by the version.
+    fn cell(&mut self, random: &mut Random, code: fn(&Version) -> i64) -> Option<()> {
         if self.parts.iter().all(|part| part.len() <= 8) {
             self.last_with_cells()?;
         }
         let places: Vec<usize> = (0..self.parts.len()).filter(|&place| self.parts[place].len() > 8).collect();
-        let part = &mut self.parts[random.pick(&places)];
-        let start = 8 + 4 * random.below((part.len() - 8) / 4);
-        part.get_mut(start..start + 4)?.copy_from_slice(&code.to_le_bytes());
+        let (part, size) = (&mut self.parts[random.pick(&places)], self.version.cell);
+        let start = 8 + size * random.below(((part.len() - 8) / size).max(1));
+        part.get_mut(start..start + size)?.copy_from_slice(&self.version.write_code(code(&self.version)));
         Some(())
     }
+}
+
+/// The header of a table with this mark.
+fn header(version: &Version, letters: &[u8; 3], columns: u8, rows: u16) -> Vec<u8> {
+    [&version.mark(letters)[..], &[columns], &rows.to_le_bytes()].concat()
 }
 
 /// A fault made by putting a small faulty plan beside the whole plan.

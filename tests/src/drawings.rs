@@ -8,6 +8,7 @@ use crate::nodes::{write_plan, HEADER};
 use crate::plan::{Aggregate, Comparison, Form, Keys, Plan, Test, ALWAYS};
 use crate::rules::weight;
 use crate::tables::{write_table, Table};
+use crate::version::VERSION_2;
 
 /// The drawings of the sample club, each under its name.
 pub fn drawings() -> Vec<(String, String)> {
@@ -59,12 +60,12 @@ fn column_names(ids: &[u8]) -> String {
 }
 
 /// The cells of a row.
-fn cells(row: &[i32]) -> String {
+fn cells(row: &[i64]) -> String {
     row.iter().map(|&code| cell_text(code)).collect::<Vec<_>>().join(" ")
 }
 
 /// Rows, each in brackets.
-fn row_list(rows: &[Vec<i32>]) -> String {
+fn row_list(rows: &[Vec<i64>]) -> String {
     match rows {
         [] => "none".to_string(),
         _ => rows.iter().map(|row| format!("({})", cells(row))).collect::<Vec<_>>().join(" "),
@@ -91,11 +92,11 @@ fn mark(bytes: &[u8]) -> String {
 
 /// The bytes of a set: a line for each table's header and one for each row.
 fn set_drawing(tables: &[Table]) -> String {
-    let written: Vec<Vec<u8>> = tables.iter().map(write_table).collect();
+    let written: Vec<Vec<u8>> = tables.iter().map(|table| write_table(&VERSION_2, table)).collect();
     let width = byte_width(&written.concat());
     let mut lines = Vec::new();
     for (number, (table, bytes)) in tables.iter().zip(&written).enumerate() {
-        let row_size = 4 * table.columns;
+        let row_size = VERSION_2.cell * table.columns;
         let (header, body) = bytes.split_at(bytes.len() - row_size * table.rows.len());
         let size = format!("{}, {}", counted(table.columns, "column"), counted(table.rows.len(), "row"));
         lines.push(vec![byte_list(header, width), format!("table {number}: {}, {size}", mark(header))]);
@@ -242,8 +243,8 @@ fn add_branches(plan: &Plan, own: &str, below: &str, all: &mut Vec<String>) {
 
 /// One run of a node: the left rows that it is nested in, outermost first, and the rows that it gives there.
 struct Run {
-    inside: Vec<Vec<i32>>,
-    rows: Vec<Vec<i32>>,
+    inside: Vec<Vec<i64>>,
+    rows: Vec<Vec<i64>>,
 }
 
 /// Adds the runs of all nodes to those of their places. The plan's own place is `place`.
@@ -265,8 +266,8 @@ fn add_runs(plan: &Plan, place: usize, tables: &[Table], outer: Option<&Scope>, 
 }
 
 /// The rows in view, outermost first.
-fn rows_around(scope: Option<&Scope>) -> Vec<Vec<i32>> {
-    let mut all: Vec<Vec<i32>> =
+fn rows_around(scope: Option<&Scope>) -> Vec<Vec<i64>> {
+    let mut all: Vec<Vec<i64>> =
         std::iter::successors(scope, |scope| scope.outer).map(|scope| scope.row.to_vec()).collect();
     all.reverse();
     all

@@ -4,7 +4,7 @@ use crate::build::*;
 use crate::cells::{BLANK, LARGEST, OFF_SCALE};
 use crate::generate::Input;
 use crate::in_place;
-use crate::keys::{in_bucket_of, rows_in_one_bucket};
+use crate::keys::{in_bucket_of, rows_in_one_bucket, AROUND_POWERS};
 use crate::plan::Comparison::{AtLeast, AtMost, Equal, Greater, Less, NotEqual};
 use crate::plan::{Aggregate, Plan, Test, ALWAYS, COMPARISONS};
 use crate::random::Random;
@@ -33,12 +33,17 @@ fn cards_of_player() -> Plan {
 }
 
 /// Cells of each sort: numbers at the ends of the range and around 0, blank, off scale.
-const ENDS: [i32; 6] = [-LARGEST, LARGEST, BLANK, OFF_SCALE, 0, -1];
+const ENDS: [i64; 6] = [-LARGEST, LARGEST, BLANK, OFF_SCALE, 0, -1];
+
+/// Numbers that are alike in their lower 32 bits; version 1's codes of blank and off scale, which are plain numbers now; and one of 52 bits.
+const WIDE: [i64; 6] = [5 - (1 << 32), 5 + (1 << 32), -2_147_483_648, 2_147_483_647, 5, 5 + (1 << 51)];
 
 /// All edges.
 pub fn edges() -> Vec<(String, Input)> {
     let named = limits().into_iter().map(|(name, input)| (name.to_string(), input));
-    named.chain(in_place::edges()).collect()
+    let wide = [comparisons_by_tests(&WIDE), comparisons_by_keys(&WIDE)].concat();
+    let wide = wide.into_iter().map(|(name, input)| (format!("{name}, of 64 bits"), input));
+    named.chain(wide).chain(in_place::edges()).collect()
 }
 
 /// The edges but those of the kinds that pass rows on without a region.
@@ -54,6 +59,7 @@ fn limits() -> Vec<(&'static str, Input)> {
     add("no rows", vec![sized(5, 0)], scan(0, 0));
     add("1,000 rows", vec![sized(1, 1000)], scan(0, 0));
     add("cells at the ends of the range", vec![one_column(&ENDS)], scan(0, 0));
+    add("cells around powers of two", vec![one_column(&AROUND_POWERS)], scan(0, 0));
     add("Cross 64 x 64", vec![sized(1, 64)], cross(scan(0, 0), scan(0, 1)));
     add("Each 64 x 64", vec![sized(1, 64)], each(scan(0, 0), scan(0, 1)));
     add("Cross 1,000 x 4", vec![sized(1, 1000), sized(2, 4)], cross(scan(0, 0), scan(1, 1)));
@@ -91,6 +97,9 @@ fn limits() -> Vec<(&'static str, Input)> {
     add("a Distinct of 7", vec![sized(9, 2)], distinct(&[8, 0, 5, 1, 4, 2, 3], scan(0, 0)));
     add("a test with the largest number", two(), select(number_test(1, AtMost, LARGEST), scan(0, 0)));
     add("a test with the least number", two(), select(number_test(0, AtLeast, -LARGEST), scan(0, 0)));
+    let all_bytes = [0x1e_dcba_9876_5432, -0x1e_dcba_9876_5432].map(|number| number_test(0, NotEqual, number));
+    add("a test with a number of all its bytes", two(), select(all_bytes[0], scan(0, 0)));
+    add("a test with a negative number of all its bytes", two(), select(all_bytes[1], scan(0, 0)));
     add("a test that never passes", two(), select(NEVER, scan(0, 0)));
     let not = columns_test(0, Less, 1).not_turned();
     add("a not-mark with columns", two(), select(not, scan(0, 0)));
@@ -111,8 +120,9 @@ fn limits() -> Vec<(&'static str, Input)> {
     let club = club();
     add("the listing", club.tables, club.plan);
     all.extend(aggregates());
-    all.extend(comparisons_by_tests());
-    all.extend(comparisons_by_keys());
+    all.extend(comparisons_by_tests(&ENDS));
+    all.extend(comparisons_by_keys(&ENDS));
+    all.extend(totals_beyond_64_bits());
     all.extend(comparisons_of_cards());
     all.extend(lists_with_equal_rows());
     all.extend(sequences_with_equal_rows());
@@ -127,7 +137,7 @@ fn limits() -> Vec<(&'static str, Input)> {
 
 /// Cards with blanks at every place where they decide an aggregate or must not.
 fn cards_with_blanks() -> Table {
-    let counted: [(i32, &[i32]); 13] = [
+    let counted: [(i64, &[i64]); 13] = [
         // Blanks first, between and last; none; alone; and no player at all.
         (1, &[5, BLANK, 7]),
         (2, &[BLANK, 8]),
@@ -178,19 +188,46 @@ fn aggregates() -> Vec<(&'static str, Input)> {
     .to_vec()
 }
 
+/// Sums over a Cross whose totals leave 64 bits: that of all rows, and those of all rows but a fifth of them.
+fn totals_beyond_64_bits() -> Vec<(&'static str, Input)> {
+    // 2^62 is the sum of 512 times 9 * 10^15 and of this.
+    let rest = (1 << 62) - 512 * LARGEST;
+    let cell = |row: usize| if row < 512 { LARGEST } else { rest };
+    let up = Table { columns: 2, rows: (0..513).map(|row| vec![row as i64 % 2, cell(row)]).collect() };
+    let down = Table { columns: 2, rows: up.rows.iter().map(|row| vec![row[0], -row[1]]).collect() };
+    let keyed = |count: i64| one_column(&(0..count).collect::<Vec<_>>());
+    let crossed = || cross(scan(0, 10), scan(1, 20));
+    let sum = Aggregate::Sum(11);
+    [
+        // 2^64 is 0 in 64 bits, and 2^63 the least number of 64.
+        ("a total of 2^64", vec![up.clone(), keyed(4)], fold(sum, 30, ALWAYS, Plan::Unit, crossed())),
+        ("a total of -2^64", vec![down.clone(), keyed(4)], fold(sum, 30, ALWAYS, Plan::Unit, crossed())),
+        ("a total of 2^63", vec![up.clone(), keyed(2)], fold(sum, 30, ALWAYS, Plan::Unit, crossed())),
+        ("a total of -2^63", vec![down.clone(), keyed(2)], fold(sum, 30, ALWAYS, Plan::Unit, crossed())),
+        (
+            "totals beyond 64 bits by a Pair",
+            vec![up, keyed(5)],
+            pair(sum, 30, keys(0, NotEqual, 20), scan(1, 0), crossed()),
+        ),
+        ("totals beyond 64 bits by a Group", vec![down, keyed(5)], group(sum, 30, keys(31, NotEqual, 20), crossed())),
+    ]
+    .map(|(name, tables, plan)| (name, Input { tables, plan }))
+    .to_vec()
+}
+
 /// A plan's rows, each with 1 or 0 for each test: whether the row passes it.
 fn outcomes(tests: &[Test], plan: Plan) -> Plan {
     let with_outcome = |plan, (new, test): (u8, &Test)| fold(Aggregate::Count, new, *test, plan, Plan::Unit);
     (10..).zip(tests).fold(plan, with_outcome)
 }
 
-/// Tests that compare cells of every sort, with a number and two by two.
-fn comparisons_by_tests() -> Vec<(&'static str, Input)> {
-    let every_two = ENDS.iter().flat_map(|&left| ENDS.map(|right| vec![left, right])).collect();
-    let tables = vec![one_column(&ENDS), Table { columns: 2, rows: every_two }];
-    let with_number = |number| COMPARISONS.map(|comparison| number_test(0, comparison, number));
-    let not_with_0 = with_number(0).map(|test| test.not_turned());
-    let numbers = [with_number(0), not_with_0, with_number(-LARGEST), with_number(LARGEST)].concat();
+/// Tests that compare cells of every sort, with three of them that are numbers and two by two.
+fn comparisons_by_tests(cells: &[i64; 6]) -> Vec<(&'static str, Input)> {
+    let every_two = cells.iter().flat_map(|&left| cells.map(|right| vec![left, right])).collect();
+    let tables = vec![one_column(cells), Table { columns: 2, rows: every_two }];
+    let with_number = |place: usize| COMPARISONS.map(|comparison| number_test(0, comparison, cells[place]));
+    let not_marked = with_number(4).map(|test| test.not_turned());
+    let numbers = [with_number(4), not_marked, with_number(0), with_number(1)].concat();
     let columns = COMPARISONS.map(|comparison| columns_test(0, comparison, 1));
     let both_marks = [columns, columns.map(|test| test.not_turned())].concat();
     let unequal = columns_test(0, NotEqual, 1);
@@ -205,9 +242,9 @@ fn comparisons_by_tests() -> Vec<(&'static str, Input)> {
 }
 
 /// Keys of every sort, compared. Each right row has a power of 2, so that a sum tells which right rows a value meets.
-fn comparisons_by_keys() -> Vec<(&'static str, Input)> {
-    let powers = ENDS.iter().zip(0..).map(|(&cell, place)| vec![cell, 1 << place]).collect();
-    let tables = vec![one_column(&ENDS), Table { columns: 2, rows: powers }];
+fn comparisons_by_keys(cells: &[i64; 6]) -> Vec<(&'static str, Input)> {
+    let powers = cells.iter().zip(0..).map(|(&cell, place)| vec![cell, 1 << place]).collect();
+    let tables = vec![one_column(cells), Table { columns: 2, rows: powers }];
     let sum = |id: u8| Aggregate::Sum(id + 1);
     let with_pair = |left, (comparison, id)| pair(sum(id), id + 2, keys(0, comparison, id), left, scan(1, id));
     let paired = COMPARISONS.into_iter().zip((10..).step_by(10)).fold(scan(0, 0), with_pair);
@@ -227,7 +264,7 @@ fn comparisons_by_keys() -> Vec<(&'static str, Input)> {
 
 /// Some and Every with a ≠ over cards that are blank or off scale, alone and beside a number that passes or does not.
 fn comparisons_of_cards() -> Vec<(&'static str, Input)> {
-    let scores: [(i32, &[i32]); 7] = [
+    let scores: [(i64, &[i64]); 7] = [
         (1, &[36, BLANK]),
         (2, &[10, BLANK]),
         (3, &[BLANK]),
@@ -450,7 +487,7 @@ fn tables_of_many_rows() -> Vec<Table> {
     let keys = [&in_one_bucket[..], &[BLANK, 7, OFF_SCALE, 7, LARGEST, -LARGEST, 8]].concat();
     let keyed = |height: usize, step: usize| {
         let cell = |row: usize| [5, -3, BLANK, 12, 5, 0, 4][row % 7];
-        let row = |row: usize| vec![keys[(row * step + row / 11) % keys.len()], cell(row), row as i32];
+        let row = |row: usize| vec![keys[(row * step + row / 11) % keys.len()], cell(row), row as i64];
         Table { columns: 3, rows: (0..height).map(row).collect() }
     };
     vec![keyed(34, 3), keyed(40, 5), keyed(3, 1)]
@@ -459,7 +496,7 @@ fn tables_of_many_rows() -> Vec<Table> {
 /// A table of 36 rows that are different in both of two columns, or equal in both, all in one bucket, and of a third column.
 fn rows_of_one_bucket() -> Table {
     let shared = rows_in_one_bucket(&mut Random::new(41), 6);
-    let row = |row: usize| [&shared[(5 * row + row / 7) % 6][..], &[row as i32 % 2]].concat();
+    let row = |row: usize| [&shared[(5 * row + row / 7) % 6][..], &[row as i64 % 2]].concat();
     Table { columns: 3, rows: (0..36).map(row).collect() }
 }
 

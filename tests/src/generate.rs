@@ -7,6 +7,7 @@ use crate::check::{bound, check_tree, columns};
 use crate::downward::keeping_equal_rows;
 use crate::evaluate::{column_cells, first_occurrences};
 use crate::in_place::{self, Tree, OTHERS, PASSING, TURNS};
+use crate::keys::AROUND_POWERS;
 use crate::nodes::write_plan;
 use crate::plan::{Aggregate, Comparison, Form, Keys, Plan, Test, ALWAYS, COMPARISONS};
 use crate::random::Random;
@@ -156,7 +157,7 @@ pub fn related_tables(random: &mut Random) -> (Vec<Table>, Vec<KeyColumn>) {
 }
 
 /// A few different codes, most of them small numbers.
-fn key_sequence(random: &mut Random) -> Vec<i32> {
+fn key_sequence(random: &mut Random) -> Vec<i64> {
     let mut keys = Vec::new();
     for _ in 0..random.between(0, 5) {
         let key = code(random);
@@ -168,7 +169,7 @@ fn key_sequence(random: &mut Random) -> Vec<i32> {
 }
 
 /// A column of a given height whose first occurrences are the keys.
-fn run_through(random: &mut Random, keys: &[i32], height: usize) -> Vec<i32> {
+fn run_through(random: &mut Random, keys: &[i64], height: usize) -> Vec<i64> {
     let mut seen = 0;
     let mut cells = Vec::new();
     while cells.len() < height {
@@ -183,23 +184,38 @@ fn run_through(random: &mut Random, keys: &[i32], height: usize) -> Vec<i32> {
     cells
 }
 
-/// A code of a cell: mostly small numbers, some blank, off scale or at the ends of the range.
-pub fn code(random: &mut Random) -> i32 {
-    match random.below(20) {
-        0 | 1 => BLANK,
-        2 => OFF_SCALE,
-        3 => random.pick(&[LARGEST, LARGEST - 1, -LARGEST, 1 - LARGEST]),
-        4 => random.pick(&[30, 31, 36, -30]),
-        _ => random.below(7) as i32 - 2,
+/// A code of a cell: mostly small numbers, some blank, off scale, at the ends of the range, around powers of two, or alike with a small one in
+/// their lower 32 bits.
+pub fn code(random: &mut Random) -> i64 {
+    match random.below(40) {
+        0..=3 => BLANK,
+        4..=5 => OFF_SCALE,
+        6..=7 => random.pick(&[LARGEST, LARGEST - 1, -LARGEST, 1 - LARGEST]),
+        8..=9 => random.pick(&[30, 31, 36, -30]),
+        10 => random.pick(&AROUND_POWERS),
+        11 => alike_with_small(random),
+        _ => small(random),
     }
 }
 
+/// A small number.
+fn small(random: &mut Random) -> i64 {
+    random.below(7) as i64 - 2
+}
+
+/// A number that is alike with a small one in its lower 32 bits.
+fn alike_with_small(random: &mut Random) -> i64 {
+    small(random) + (random.pick(&[-2_000_000, -1, 1, 2_000_000]) << 32)
+}
+
 /// A number for a test.
-fn number(random: &mut Random) -> i32 {
-    match random.below(12) {
-        0 => random.pick(&[LARGEST, -LARGEST, LARGEST - 1]),
-        1 => 30,
-        _ => random.below(7) as i32 - 2,
+fn number(random: &mut Random) -> i64 {
+    match random.below(24) {
+        0..=1 => random.pick(&[LARGEST, -LARGEST, LARGEST - 1]),
+        2..=3 => 30,
+        4 => random.pick(&AROUND_POWERS),
+        5 => alike_with_small(random),
+        _ => small(random),
     }
 }
 
@@ -570,7 +586,7 @@ impl Maker<'_> {
 /// A Semi or Anti that is right for U3 or U4 but for the ids: all 256 are introduced, or one is
 /// left (then it is c).
 pub fn all_ids_taken(random: &mut Random) -> Input {
-    let codes: Vec<i32> = (0..16).map(|_| code(random)).collect();
+    let codes: Vec<i64> = (0..16).map(|_| code(random)).collect();
     let wide = Table { columns: 16, rows: vec![codes] };
     let key = random.below(16) as u8;
     let left = Plan::Distinct { list: vec![key], child: Box::new(Plan::Scan { table: 0, first: 0 }) };
@@ -596,7 +612,7 @@ pub fn all_ids_taken(random: &mut Random) -> Input {
 /// A Semi, Anti or Pair that is right for its rule, below a Cross or Each whose bound grows with
 /// the step, sometimes over 4,096.
 pub fn bound_grows(random: &mut Random) -> Input {
-    let keys: Vec<i32> = (0..4).collect();
+    let keys: Vec<i64> = (0..4).collect();
     let short = one_column(&keys);
     let height = random.between(62, 66);
     let long = one_column(&run_through(random, &keys, height));
@@ -628,7 +644,7 @@ fn of_two_keys(random: &mut Random, (left, left_key): (Plan, u8), (right, right_
 /// cells of its own.
 pub fn common_beginning(random: &mut Random) -> Input {
     let beginning = match random.below(20) {
-        0 => (0..random.between(100, 990) as i32).collect(),
+        0 => (0..random.between(100, 990) as i64).collect(),
         _ => key_sequence(random),
     };
     let mut column = || {
@@ -675,7 +691,7 @@ fn scores(random: &mut Random) -> Table {
     let height = if random.chance(10) { 0 } else { random.between(6, 16) };
     let mut row = || {
         let key = random.below(4);
-        let code = if random.chance(10) { BLANK } else { key as i32 };
+        let code = if random.chance(10) { BLANK } else { key as i64 };
         vec![code, random.pick(&cells[key]), random.pick(&cells[key])]
     };
     Table { columns: 3, rows: (0..height).map(|_| row()).collect() }
@@ -759,7 +775,7 @@ fn equal_scores(random: &mut Random) -> Table {
     let scores = [0; 2].map(|_| random.pick(&[BLANK, OFF_SCALE, 31, 36]));
     let players = [code(random), code(random), code(random), 5, 6];
     let height = if random.chance(5) { random.below(3) } else { random.between(3, 10) };
-    let row = |number: usize| vec![random.pick(&scores), random.pick(&players), number as i32];
+    let row = |number: usize| vec![random.pick(&scores), random.pick(&players), number as i64];
     Table { columns: 3, rows: (0..height).map(row).collect() }
 }
 

@@ -10,7 +10,7 @@ use crate::cells::{BLANK, OFF_SCALE};
 use crate::check::{need, need_before};
 use crate::damage::{faults, Fault};
 use crate::downward::{decided_by_equal_rows, sorts_with_equal_rows};
-use crate::evaluate::{column_cells, first_occurrences};
+use crate::evaluate::{column_cells, first_occurrences, Left};
 use crate::generate::{accepted, common_beginning, downward, in_place, steps, totals, unequal, with_between, Input};
 use crate::large;
 use crate::plan::Comparison::NotEqual;
@@ -18,6 +18,8 @@ use crate::plan::{Aggregate, Form, Plan, Test};
 use crate::random::Random;
 use crate::rules::{sequences, stay_position};
 use crate::tables::Table;
+use crate::version::VERSION_2;
+use crate::wide::wide_totals;
 
 /// How often each answer and each rule was met.
 #[derive(Clone, Default)]
@@ -37,6 +39,8 @@ pub struct Counts {
     pub ended: usize,
     /// Sums that a plan's first node took: those that are numbers, blank, off scale.
     pub sums: [usize; 3],
+    /// Reports with a sum, at any node, that left the range of numbers; that left 64 bits; that would be back in the range if kept in 64 bits.
+    pub left: [usize; 3],
     /// Sides that a plan's first node compared by ≠, in a Select, a Pair and a Group: one blank, both blank, one or both off scale.
     pub unequal: [[usize; 3]; 3],
     /// Downward Sorts that had rows equal in all listed columns.
@@ -70,6 +74,7 @@ impl Counts {
             + &format!("notes with position 0 {}, with a later one {}, ", self.notes[0], self.notes[1])
             + &format!("where just one sequence has ended {}\n", self.ended)
             + &format!("sums that are numbers {}, blank {}, off scale {}\n", self.sums[0], self.sums[1], self.sums[2])
+            + &self.left_line()
             + &self.unequal_line()
             + &self.downward_line()
             + &self.between.lines()
@@ -77,6 +82,13 @@ impl Counts {
             + &self.need_line()
             + &format!("steps of the unnesting call{}\n", by_rule(&self.rules))
             + &format!("tried steps that fitted{}, that did not {}\n", by_rule(&self.tried), self.tried[0])
+    }
+
+    /// The counts of reports with sums that left the range, as a line of text.
+    pub fn left_line(&self) -> String {
+        let [range, bits, back] = self.left;
+        format!("reports with a sum that left the range {range}, that left 64 bits {bits}, ")
+            + &format!("and would be back in the range there {back}\n")
     }
 
     /// The counts of sides compared by ≠, as a line of text.
@@ -111,6 +123,12 @@ impl Counts {
             Some(15) => self.no_longer_16[call][0] += 1,
             Some(_) => {}
         }
+    }
+
+    /// Counts a report whose evaluation had these sums.
+    fn count_left(&mut self, left: Left) {
+        let sums = [left.range, left.bits, left.back];
+        self.left.iter_mut().zip(sums).for_each(|(count, sums)| *count += usize::from(sums > 0));
     }
 
     /// Counts the downward Sorts of an accepted plan that have rows equal in all listed columns, and what their order decides.
@@ -155,9 +173,9 @@ impl Counts {
 }
 
 /// The sides that the first node of an accepted plan compares by ≠, for a Select (0), a Pair (1) and a Group (2).
-fn unequal_sides(plan: &Plan, tables: &[Table]) -> Option<(usize, Vec<(i32, i32)>)> {
+fn unequal_sides(plan: &Plan, tables: &[Table]) -> Option<(usize, Vec<(i64, i64)>)> {
     let cells = |child: &Plan, id: u8| column_cells(child, id, tables);
-    let every_two = |left: Vec<i32>, right: Vec<i32>| -> Vec<(i32, i32)> {
+    let every_two = |left: Vec<i64>, right: Vec<i64>| -> Vec<(i64, i64)> {
         left.iter().flat_map(|&one| right.iter().map(move |&other| (one, other))).collect()
     };
     match plan {
@@ -195,7 +213,8 @@ const WORK: u64 = 100_000;
 /// A random input: accepted; with one fault or two; or with bytes changed, cut off or put on anywhere.
 fn drawn(random: &mut Random, faults: &[Fault]) -> (Vec<u8>, Vec<u8>) {
     match random.below(100) {
-        0..=45 => bytes_of(&accepted(random)),
+        0..=44 => bytes_of(&accepted(random)),
+        45 => bytes_of(&wide_totals(random)),
         46..=47 => bytes_of(&large::large(random, WORK)),
         48..=49 => bytes_of(&in_place(random)),
         50..=51 => bytes_of(&with_between(random)),
@@ -269,11 +288,13 @@ fn often_below(random: &mut Random, room: usize) -> usize {
     }
 }
 
-/// What the reporting call has to give of an accepted input in rooms that are large enough; its need, and the one before request K12.
+/// What the reporting call has to give of an accepted input in rooms that are large enough; its need, and the one before request K12; and the
+/// sums that left a range.
 pub struct Due {
     pub report: calls::Report,
     need: usize,
     before: usize,
+    left: Left,
 }
 
 impl Due {
@@ -281,7 +302,8 @@ impl Due {
     pub fn of(tree: &Plan, tables: &[Table]) -> Due {
         let (need, before) = (need(tree, tables) as usize, need_before(tree, tables) as usize);
         assert!(need <= before, "a need of {need} cells that was {before}");
-        Due { report: calls::report_of(tree, tables), need, before }
+        let (report, left) = calls::report_in(VERSION_2, tree, tables);
+        Due { report, need, before, left }
     }
 }
 
@@ -310,7 +332,10 @@ pub fn hold_rooms(
     counts: &mut Counts,
 ) -> Result<(), String> {
     let (cells, need, before) = match due {
-        Ok(due) => (due.report.codes.len(), due.need, due.before),
+        Ok(due) => {
+            counts.count_left(due.left);
+            (due.report.codes.len(), due.need, due.before)
+        }
         Err(_) => (random.below(9), random.below(5000), 0),
     };
     let around = match random.below(6) {
@@ -459,3 +484,10 @@ pub fn hold_stay_notes(random: &mut Random, set: &[u8], plan: &[u8], counts: &mu
     }
     Ok(())
 }
+
+// ---- the converter
+
+// The archive does not have the converter's two calls yet. Once it has, this is the place to hold them against `convert::convert`: their words
+// against `convert::convert_word`, both outputs, and both rooms at, below and above their edges, where neither may be written if either is short.
+// The inputs for it are drawn by `wide::narrowed` (version 1, and version 2 that fits it), by `generate::accepted` (version 2 that mostly does
+// not fit), and by `damage::damaged` in either version.

@@ -90,11 +90,11 @@ pub fn chain(operators: &[Operator], table: u8) -> Tree {
 /// The two tables, of these widths and heights: a key in the first column, and cells that stand nowhere else. Of the keys 1, 3 and 5 stand
 /// in both tables.
 pub fn tables(widths: [usize; 2], heights: [usize; 2]) -> Vec<Table> {
-    let keys: [&[i32]; 2] = [&[2, 1, 3, 2, 5, 1, 4, 3], &[1, 3, 6, 5, 1, 7]];
+    let keys: [&[i64]; 2] = [&[2, 1, 3, 2, 5, 1, 4, 3], &[1, 3, 6, 5, 1, 7]];
     let table = |number: usize| {
         let cell = |row: usize, column: usize| match column {
             0 => keys[number][row % keys[number].len()],
-            _ => (1000 * (number + 1) + 20 * row + column) as i32,
+            _ => (1000 * (number + 1) + 20 * row + column) as i64,
         };
         let row = |row: usize| (0..widths[number]).map(|column| cell(row, column)).collect();
         Table { columns: widths[number], rows: (0..heights[number]).map(row).collect() }

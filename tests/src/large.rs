@@ -4,11 +4,11 @@
 //! an inner plan run once where no left row can change it.
 
 use crate::build::*;
-use crate::cells::{BLANK, OFF_SCALE};
+use crate::cells::{BLANK, LARGEST, OFF_SCALE};
 use crate::check::{bound, check_tree, columns};
 use crate::evaluate::rows;
 use crate::generate::{code, Ids, Input};
-use crate::keys::{bucket, column, pool, rows_in_one_bucket};
+use crate::keys::{anywhere, bucket, column, pool, rows_in_one_bucket};
 use crate::plan::Comparison::Equal;
 use crate::plan::{Aggregate, Comparison, Form, Keys, Plan, Test, COMPARISONS};
 use crate::random::Random;
@@ -56,7 +56,7 @@ pub fn work(plan: &Plan, tables: &[Table]) -> u64 {
 }
 
 /// Four tables: two large ones, one of up to 64 rows, and one of very few.
-fn tables(random: &mut Random, keys: &[i32]) -> Vec<Table> {
+fn tables(random: &mut Random, keys: &[i64]) -> Vec<Table> {
     let heights = [height(random, 1000), height(random, 1000), height(random, 64), random.below(4)];
     let wide = random.chance(8);
     heights.map(|height| table(random, keys, height, wide)).to_vec()
@@ -71,24 +71,36 @@ fn height(random: &mut Random, most: usize) -> usize {
     }
 }
 
-/// A table of up to five columns, now and then of 16. Most columns have keys, others cells of all sorts or the row's number.
-fn table(random: &mut Random, keys: &[i32], height: usize, wide: bool) -> Table {
+/// A table of up to five columns, now and then of 16. Most columns have keys, others cells of all sorts, cells near
+/// one end of the range, or the row's number.
+fn table(random: &mut Random, keys: &[i64], height: usize, wide: bool) -> Table {
     let width = if wide && height <= 64 { 16 } else { random.between(1, 5) };
     let one_column = |random: &mut Random| match random.below(10) {
         0..=4 => column(random, keys, height),
         5..=6 => (0..height).map(|_| code(random)).collect(),
         7 => column(random, &keys[..keys.len().min(2)], height),
-        _ => (0..height as i32).collect(),
+        8 => near_one_end(random, height),
+        _ => (0..height as i64).collect(),
     };
-    let mut cells: Vec<Vec<i32>> = (0..width).map(|_| one_column(random)).collect();
+    let mut cells: Vec<Vec<i64>> = (0..width).map(|_| one_column(random)).collect();
     if width >= 2 && random.chance(15) {
         let count = random.between(2, 40);
         let shared = rows_in_one_bucket(random, count);
-        let drawn: Vec<[i32; 2]> = (0..height).map(|_| random.pick(&shared)).collect();
+        let drawn: Vec<[i64; 2]> = (0..height).map(|_| random.pick(&shared)).collect();
         cells[0] = drawn.iter().map(|row| row[0]).collect();
         cells[1] = drawn.iter().map(|row| row[1]).collect();
     }
     Table { columns: width, rows: (0..height).map(|row| cells.iter().map(|column| column[row]).collect()).collect() }
+}
+
+/// A column of cells most of which are near one end of the range, so that sums of many rows leave 64 bits.
+fn near_one_end(random: &mut Random, height: usize) -> Vec<i64> {
+    let (end, others) = (random.pick(&[-1, 1]), random.pick(&[0, 2, 10]));
+    let mut cell = || match random.below(100) {
+        number if number < others => anywhere(random),
+        _ => end * (LARGEST - random.below(4) as i64),
+    };
+    (0..height).map(|_| cell()).collect()
 }
 
 /// A plan, the columns that it gives, and one of them that is compared mostly.
@@ -102,7 +114,7 @@ struct Drawn {
 struct Maker<'a> {
     random: &'a mut Random,
     tables: &'a [Table],
-    numbers: &'a [i32],
+    numbers: &'a [i64],
     ids: Ids,
 }
 
@@ -178,8 +190,8 @@ impl Maker<'_> {
     }
 
     /// A number for a test: a key, or a small one.
-    fn number(&mut self) -> i32 {
-        let small = self.random.below(9) as i32 - 3;
+    fn number(&mut self) -> i64 {
+        let small = self.random.below(9) as i64 - 3;
         let key = self.random.pick(self.numbers);
         self.random.pick(&[small, key])
     }
@@ -361,8 +373,8 @@ pub struct Met {
     /// Semis and Antis, Pairs by =, Groups by = and Distincts, by the rows that keys are looked up in: none, up to 32, more.
     pub looked_up: [[usize; 3]; 4],
     /// Those of them, with more than 32 rows, where blank stands on both sides; off scale on both; different keys in one bucket; and where
-    /// all keys are equal; all different. In a Distinct the keys are its rows.
-    pub keys: [usize; 5],
+    /// all keys are equal; all different; where different ones are alike in the lower 32 bits. In a Distinct the keys are its rows.
+    pub keys: [usize; 6],
     /// Sorts by their rows: up to 1, to 32, to 255, to 999, more.
     pub sorts: [usize; 5],
     /// Those of them with rows equal in all listed columns.
@@ -398,11 +410,14 @@ impl Met {
         if size < 2 {
             return;
         }
-        let on_both = |code: i32| [&left, &right].iter().all(|side| side.contains(&vec![code]));
+        let on_both = |code: i64| [&left, &right].iter().all(|side| side.contains(&vec![code]));
         let keys = different(right.clone());
         let buckets = different(keys.iter().map(|key| bucket(key)).collect());
         let one_bucket = buckets.len() < keys.len();
-        let met = [on_both(BLANK), on_both(OFF_SCALE), one_bucket, keys.len() == 1, keys.len() == right.len()];
+        let lower: Vec<Vec<u32>> = keys.iter().map(|key| key.iter().map(|&cell| cell as u32).collect()).collect();
+        let alike_below = different(lower).len() < keys.len();
+        let (one, all) = (keys.len() == 1, keys.len() == right.len());
+        let met = [on_both(BLANK), on_both(OFF_SCALE), one_bucket, one, all, alike_below];
         self.keys.iter_mut().zip(met).for_each(|(count, met)| *count += usize::from(met));
     }
 
@@ -441,10 +456,11 @@ impl Met {
         let kinds = ["Semis and Antis", "Pairs by =", "Groups by =", "Distincts"];
         let of_kind = |(kind, [none, few, many]): (&str, [usize; 3])| format!("{kind} {none}, {few}, {many}");
         let looked_up: Vec<String> = kinds.into_iter().zip(self.looked_up).map(of_kind).collect();
-        let [blank, off_scale, shared, equal, different] = self.keys;
+        let [blank, off_scale, shared, equal, different, alike_below] = self.keys;
         format!("keys looked up in no rows, in up to 32, in more: {}\n", looked_up.join("; "))
             + &format!("of those in more: blank on both sides {blank}, off scale on both {off_scale}, ")
-            + &format!("different keys in one bucket {shared}, all equal {equal}, all different {different}\n")
+            + &format!("different keys in one bucket {shared}, all equal {equal}, all different {different}, ")
+            + &format!("different keys alike in their lower 32 bits {alike_below}\n")
     }
 
     /// The counts of Sorts, as a line of text.
@@ -464,7 +480,7 @@ impl Met {
 }
 
 /// Rows of keys that are looked up, and those that they are looked up in.
-type Sides = (Vec<Vec<i32>>, Vec<Vec<i32>>);
+type Sides = (Vec<Vec<i64>>, Vec<Vec<i64>>);
 
 /// The keys that a node compares by =, for a Semi or an Anti (0), a Pair (1), a Group (2) and a Distinct (3). Of the last two both sides are of
 /// the child.

@@ -2,7 +2,7 @@
 //!
 //! It shares no code and no definition with the proved library: it reads the same bytes in its
 //! own way, so that a mistake in reading the paper shows as a difference between the two.
-//! It is plain rather than quick. The calls that the library has are in [`calls`]; `archive` and
+//! It is plain rather than quick. The calls that the library has are in [`calls`] and its converter in [`convert`]; `archive` and
 //! `held` hold those of the library's archive against them, where the archive is there.
 
 #[cfg(archive)]
@@ -13,6 +13,7 @@ pub mod calls;
 pub mod cases;
 pub mod cells;
 pub mod check;
+pub mod convert;
 pub mod damage;
 pub mod downward;
 pub mod drawings;
@@ -33,3 +34,5 @@ pub mod rules;
 #[cfg(target_os = "linux")]
 pub mod stack;
 pub mod tables;
+pub mod version;
+pub mod wide;

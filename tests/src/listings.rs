@@ -5,10 +5,11 @@ use crate::calls::listing;
 use crate::cells::{BLANK, LARGEST, OFF_SCALE};
 use crate::edges::{club, club_with_project};
 use crate::generate::Input;
-use crate::nodes::write_plan;
+use crate::nodes::{write_plan, write_plan_in};
 use crate::plan::Comparison::NotEqual;
 use crate::plan::{Plan, ALWAYS};
-use crate::tables::{write_set, Table};
+use crate::tables::{write_set, write_set_in, Table};
+use crate::version::VERSION_1;
 
 /// The scratch cells that the program has. Its other room is enough for every accepted input.
 pub const SCRATCH: usize = 262_144;
@@ -47,7 +48,7 @@ pub fn runs() -> Vec<Run> {
     moved[1].rows = vec![vec![9, BLANK], vec![7, 36], vec![4, 31], vec![7, 33]];
     let codes = table(&[&[BLANK, OFF_SCALE, -1], &[-LARGEST, LARGEST, 0]]);
     let mut beyond = write_set(&tables);
-    beyond[8..12].copy_from_slice(&(LARGEST + 1).to_le_bytes());
+    beyond[8..16].copy_from_slice(&(LARGEST + 1).to_le_bytes());
     vec![
         Run::of("paper", tables.clone(), plan.clone()),
         Run::of("stay", moved, plan.clone()),
@@ -57,6 +58,16 @@ pub fn runs() -> Vec<Run> {
         Run::of("no_rows", vec![sized(2, 0)], scan(0, 0)),
         Run { name: "refused_cell", set: Some(beyond), plan: Some(write_plan(&plan)) },
         Run::of("refused_bound", vec![sized(1, 65), sized(1, 64)], cross(scan(0, 0), scan(1, 1))),
+        Run {
+            name: "refused_set_of_version_1",
+            set: Some(write_set_in(&VERSION_1, &tables)),
+            plan: Some(write_plan(&plan)),
+        },
+        Run {
+            name: "refused_plan_of_version_1",
+            set: Some(write_set(&tables)),
+            plan: Some(write_plan_in(&VERSION_1, &plan)),
+        },
         Run { name: "no_set", set: None, plan: Some(write_plan(&plan)) },
         Run { name: "no_plan", set: Some(write_set(&tables)), plan: None },
     ]

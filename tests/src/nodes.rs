@@ -1,23 +1,25 @@
 //! Plans as bytes: refusals 6 to 10, and writing a plan.
 
-use crate::cells::is_number;
 use crate::plan::{Aggregate, Comparison, Form, Keys, Plan, Test, COMPARISONS};
+use crate::version::{Version, VERSION_2};
 
-/// The bytes of one node.
-pub const NODE: usize = 24;
+/// The bytes of one node in version 2.
+pub const NODE: usize = VERSION_2.node;
 /// The bytes before the first node.
 pub const HEADER: usize = 6;
+/// The bytes of the largest plan in version 2.
+pub const LARGEST_PLAN: usize = HEADER + 64 * NODE;
 
-/// Reads a plan's bytes as a tree. Refusals 6 to 10, each over the whole plan before the next.
-pub fn read_tree(bytes: &[u8]) -> Result<Plan, u8> {
-    let count = read_header(bytes)?;
-    let nodes: Vec<&[u8]> = bytes[HEADER..].chunks(NODE).collect();
+/// Reads a plan's bytes of a version as a tree. Refusals 6 to 10, each over the whole plan before the next.
+pub fn read_tree(version: &Version, bytes: &[u8]) -> Result<Plan, u8> {
+    let count = read_header(version, bytes)?;
+    let nodes: Vec<&[u8]> = bytes[HEADER..].chunks(version.node).collect();
     assert_eq!(nodes.len(), count);
-    if nodes.iter().any(|node| !fields_are_right(node)) {
+    if nodes.iter().any(|node| !fields_are_right(version, node)) {
         return Err(9);
     }
     let mut rest = nodes.into_iter();
-    let plan = take_tree(&mut rest).ok_or(10)?;
+    let plan = take_tree(version, &mut rest).ok_or(10)?;
     if rest.next().is_some() {
         return Err(10);
     }
@@ -25,18 +27,18 @@ pub fn read_tree(bytes: &[u8]) -> Result<Plan, u8> {
 }
 
 /// The node count; refusals 6, 7, 8 and again 6.
-fn read_header(bytes: &[u8]) -> Result<usize, u8> {
+fn read_header(version: &Version, bytes: &[u8]) -> Result<usize, u8> {
     if bytes.len() < HEADER {
         return Err(6);
     }
-    if &bytes[..3] != b"RPT" || u16::from_le_bytes([bytes[3], bytes[4]]) != 1 {
+    if !version.is_mark(b"RPT", bytes) {
         return Err(7);
     }
     let count = usize::from(bytes[5]);
     if !(1..=64).contains(&count) {
         return Err(8);
     }
-    if bytes.len() != HEADER + NODE * count {
+    if bytes.len() != HEADER + version.node * count {
         return Err(6);
     }
     Ok(count)
@@ -84,8 +86,8 @@ pub fn listed(kind: u8) -> Option<&'static [Field]> {
     LISTED.get(usize::from(kind)).copied()
 }
 
-/// The bytes of a node that a field takes.
-pub fn bytes_of(field: Field) -> std::ops::Range<usize> {
+/// The bytes of a node that a field takes. Those of a test end with its number.
+pub fn bytes_of(version: &Version, field: Field) -> std::ops::Range<usize> {
     match field {
         Field::Table | Field::Direction | Field::Aggregate => 1..2,
         Field::NewId => 2..3,
@@ -94,22 +96,22 @@ pub fn bytes_of(field: Field) -> std::ops::Range<usize> {
         Field::Comparison => 5..6,
         Field::AggregateColumn => 6..7,
         Field::List => 8..16,
-        Field::Test => 16..24,
+        Field::Test => 16..20 + version.cell,
     }
 }
 
 /// Whether a node's bytes are as its kind says: listed fields in range, all others zero.
-fn fields_are_right(node: &[u8]) -> bool {
+fn fields_are_right(version: &Version, node: &[u8]) -> bool {
     let Some(fields) = listed(node[0]) else {
         return false;
     };
-    let is_listed = |place: usize| fields.iter().any(|&field| bytes_of(field).contains(&place));
-    (1..NODE).all(|place| is_listed(place) || node[place] == 0)
-        && fields.iter().all(|&field| field_is_right(field, node))
+    let is_listed = |place: usize| fields.iter().any(|&field| bytes_of(version, field).contains(&place));
+    (1..version.node).all(|place| is_listed(place) || node[place] == 0)
+        && fields.iter().all(|&field| field_is_right(version, field, node))
 }
 
 /// Whether one listed field is in its range. Tables and ids are looked at later.
-fn field_is_right(field: Field, node: &[u8]) -> bool {
+fn field_is_right(version: &Version, field: Field, node: &[u8]) -> bool {
     match field {
         Field::Table | Field::NewId | Field::LeftKey | Field::RightKey => true,
         Field::Direction => node[1] <= 1,
@@ -120,36 +122,31 @@ fn field_is_right(field: Field, node: &[u8]) -> bool {
             let length = usize::from(node[8]);
             (1..=7).contains(&length) && node[9 + length..16].iter().all(|&byte| byte == 0)
         }
-        Field::Test => test_is_right(&node[16..24]),
+        Field::Test => test_is_right(version, &node[bytes_of(version, Field::Test)]),
     }
 }
 
-/// Whether the eight bytes of a test are in range: form, comparison, not-mark, left, right or number.
-fn test_is_right(test: &[u8]) -> bool {
+/// Whether the bytes of a test are in range: form, comparison, not-mark, left, right or number.
+fn test_is_right(version: &Version, test: &[u8]) -> bool {
     let zero = |part: &[u8]| part.iter().all(|&byte| byte == 0);
     test[2] <= 1
         && match test[0] {
-            0 => test[1] == 0 && zero(&test[3..8]),
-            1 => test[1] <= 5 && zero(&test[5..8]),
-            2 => test[1] <= 5 && is_number(number_of(test)),
+            0 => test[1] == 0 && zero(&test[3..]),
+            1 => test[1] <= 5 && zero(&test[5..]),
+            2 => test[1] <= 5 && version.has_number(version.read_code(&test[4..])),
             _ => false,
         }
 }
 
-/// The number in a test's last four bytes.
-fn number_of(test: &[u8]) -> i32 {
-    i32::from_le_bytes([test[4], test[5], test[6], test[7]])
-}
-
 /// Takes one whole tree from the nodes; none when a child is missing.
-fn take_tree<'a>(nodes: &mut impl Iterator<Item = &'a [u8]>) -> Option<Plan> {
+fn take_tree<'a>(version: &Version, nodes: &mut impl Iterator<Item = &'a [u8]>) -> Option<Plan> {
     let node = nodes.next()?;
-    let test = take_test(&node[16..24]);
+    let test = take_test(version, &node[bytes_of(version, Field::Test)]);
     let list = || node[9..9 + usize::from(node[8])].to_vec();
     let aggregate = take_aggregate(node);
     let new = node[2];
     let (left_key, right_key) = (node[3], node[4]);
-    let mut child = || take_tree(nodes).map(Box::new);
+    let mut child = || take_tree(version, nodes).map(Box::new);
     Some(match node[0] {
         0 => Plan::Unit,
         1 => Plan::Scan { table: node[1], first: new },
@@ -189,33 +186,41 @@ fn comparison(byte: u8) -> Comparison {
     COMPARISONS[usize::from(byte)]
 }
 
-/// The test in eight bytes that are right.
-fn take_test(test: &[u8]) -> Test {
+/// The test in bytes that are right.
+fn take_test(version: &Version, test: &[u8]) -> Test {
     let form = match test[0] {
         0 => Form::Always,
         1 => Form::Columns(comparison(test[1]), test[3], test[4]),
-        _ => Form::Number(comparison(test[1]), test[3], number_of(test)),
+        _ => Form::Number(comparison(test[1]), test[3], version.read_code(&test[4..])),
     };
     Test { form, not: test[2] == 1 }
 }
 
-/// Writes a plan. It checks nothing, so that faulty plans can be written too.
+/// Writes a plan in version 2. It checks nothing, so that faulty plans can be written too.
 pub fn write_plan(plan: &Plan) -> Vec<u8> {
-    let nodes = plan.nodes();
-    let mut bytes = b"RPT\x01\x00".to_vec();
+    write_plan_in(&VERSION_2, plan)
+}
+
+/// Writes a plan in a version.
+pub fn write_plan_in(version: &Version, plan: &Plan) -> Vec<u8> {
+    let nodes: Vec<Vec<u8>> = plan.nodes().into_iter().map(|node| write_node(version, node)).collect();
+    write_nodes(version, &nodes)
+}
+
+/// Writes a plan of nodes already written.
+pub fn write_nodes(version: &Version, nodes: &[Vec<u8>]) -> Vec<u8> {
+    let mut bytes = version.mark(b"RPT");
     bytes.push(nodes.len() as u8);
-    for node in nodes {
-        bytes.extend(write_node(node));
-    }
+    bytes.extend(nodes.concat());
     bytes
 }
 
-/// Writes one node without its children.
-pub fn write_node(plan: &Plan) -> [u8; NODE] {
-    let mut node = [0; NODE];
+/// Writes one node in a version, without its children.
+pub fn write_node(version: &Version, plan: &Plan) -> Vec<u8> {
+    let mut node = vec![0; version.node];
     node[0] = plan.kind();
     if let Some(test) = plan.test() {
-        node[16..24].copy_from_slice(&write_test(test));
+        write_test(version, &mut node[bytes_of(version, Field::Test)], test);
     }
     match plan {
         Plan::Scan { table, first } => {
@@ -244,13 +249,13 @@ pub fn write_node(plan: &Plan) -> [u8; NODE] {
 }
 
 /// Writes a list of at most seven ids with its length.
-fn write_list(node: &mut [u8; NODE], list: &[u8]) {
+fn write_list(node: &mut [u8], list: &[u8]) {
     node[8] = list.len() as u8;
     node[9..9 + list.len()].copy_from_slice(list);
 }
 
 /// Writes an aggregate with its column and its new id.
-fn write_aggregate(node: &mut [u8; NODE], aggregate: Aggregate, new: u8) {
+fn write_aggregate(node: &mut [u8], aggregate: Aggregate, new: u8) {
     node[1] = match aggregate {
         Aggregate::Count => 0,
         Aggregate::Sum(_) => 1,
@@ -261,9 +266,8 @@ fn write_aggregate(node: &mut [u8; NODE], aggregate: Aggregate, new: u8) {
     node[6] = aggregate.column().unwrap_or(0);
 }
 
-/// Writes a test's eight bytes.
-fn write_test(test: &Test) -> [u8; 8] {
-    let mut bytes = [0; 8];
+/// Writes a test into its bytes, which are zero.
+fn write_test(version: &Version, bytes: &mut [u8], test: &Test) {
     bytes[2] = u8::from(test.not);
     match test.form {
         Form::Always => {}
@@ -277,8 +281,7 @@ fn write_test(test: &Test) -> [u8; 8] {
             bytes[0] = 2;
             bytes[1] = comparison as u8;
             bytes[3] = left;
-            bytes[4..8].copy_from_slice(&number.to_le_bytes());
+            bytes[4..].copy_from_slice(&version.write_code(number));
         }
     }
-    bytes
 }

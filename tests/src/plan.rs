@@ -26,7 +26,7 @@ pub const COMPARISONS: [Comparison; 6] = [
 impl Comparison {
     /// Whether it holds. With a blank or off-scale side it does not, except that a ≠ with exactly one blank side does, unless the
     /// other side is off scale.
-    pub fn holds(self, left: i32, right: i32) -> bool {
+    pub fn holds(self, left: i64, right: i64) -> bool {
         match (left, right) {
             (OFF_SCALE, _) | (_, OFF_SCALE) => false,
             (BLANK, BLANK) => false,
@@ -36,7 +36,7 @@ impl Comparison {
     }
 
     /// Whether it holds of two numbers.
-    fn holds_of_numbers(self, left: i32, right: i32) -> bool {
+    fn holds_of_numbers(self, left: i64, right: i64) -> bool {
         match self {
             Comparison::Equal => left == right,
             Comparison::NotEqual => left != right,
@@ -65,7 +65,7 @@ impl Comparison {
 pub enum Form {
     Always,
     Columns(Comparison, u8, u8),
-    Number(Comparison, u8, i32),
+    Number(Comparison, u8, i64),
 }
 
 /// A test: its form, and whether the outcome is turned round.

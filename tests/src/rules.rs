@@ -5,6 +5,7 @@ use crate::evaluate::{column_cells, first_occurrences, rows};
 use crate::nodes::write_plan;
 use crate::plan::{Aggregate, Comparison, Form, Keys, Plan, Test, ALWAYS};
 use crate::tables::Table;
+use crate::version::VERSION_2;
 
 /// What a rule would make of a node whose shape is right for it.
 struct Proposal {
@@ -12,7 +13,7 @@ struct Proposal {
     /// The subtree that would stand in the node's place.
     becomes: Plan,
     /// For U3, U4 and U6: e's values and the first occurrences of the right keys.
-    sequences: Option<(Vec<i32>, Vec<i32>)>,
+    sequences: Option<(Vec<i64>, Vec<i64>)>,
 }
 
 /// The rule that fits at a place, and the whole plan after it.
@@ -42,7 +43,7 @@ pub fn try_step(plan: &Plan, rule: u8, place: usize, tables: &[Table]) -> Plan {
 
 /// The sequences that U3, U4 or U6 compares at this place, if the node's shape is right for it: e's values and the first
 /// occurrences of the right keys.
-pub fn sequences(plan: &Plan, place: usize, tables: &[Table]) -> Option<(Vec<i32>, Vec<i32>)> {
+pub fn sequences(plan: &Plan, place: usize, tables: &[Table]) -> Option<(Vec<i64>, Vec<i64>)> {
     propose(plan, place, tables)?.sequences
 }
 
@@ -62,7 +63,7 @@ pub fn stay_position(plan: &Plan, place: usize, tables: &[Table]) -> Option<usiz
 fn accepted_after(plan: &Plan, place: usize, becomes: Plan, tables: &[Table]) -> Option<Plan> {
     let after = plan.replaced(place, becomes);
     // The bytes are read anew, so that the check is the reader's own.
-    read_plan(&write_plan(&after), tables).ok()
+    read_plan(&VERSION_2, &write_plan(&after), tables).ok()
 }
 
 /// What a rule would make of the node at a place, if all but the sequences of U3, U4 and U6 and
@@ -254,7 +255,7 @@ pub fn is_closed(plan: &Plan, tables: &[Table]) -> bool {
 }
 
 /// The values of e, which has one column, and the first occurrences of a column of h. Both are closed.
-fn key_sequences(e: &Plan, h: &Plan, key: u8, tables: &[Table]) -> (Vec<i32>, Vec<i32>) {
+fn key_sequences(e: &Plan, h: &Plan, key: u8, tables: &[Table]) -> (Vec<i64>, Vec<i64>) {
     let values = rows(e, tables, None).into_iter().map(|row| row[0]).collect();
     (values, first_occurrences(&column_cells(h, key, tables)))
 }

@@ -35,6 +35,7 @@ mod held {
         assert!(met(&counts.rules[1..], 200), "{:?}", counts.rules);
         assert!(met(&counts.notes, 100) && counts.ended >= 100, "{:?}, {}", counts.notes, counts.ended);
         assert!(met(&counts.sums, 200), "{:?}", counts.sums);
+        assert!(met(&counts.left, 20), "{:?}", counts.left);
         assert!(counts.unequal.iter().all(|sides| met(sides, 100)), "{:?}", counts.unequal);
         assert!(counts.equal_rows >= 200 && met(&counts.decided, 40), "{}, {:?}", counts.equal_rows, counts.decided);
         let between = &counts.between;
@@ -107,7 +108,11 @@ mod held {
     }
 
     /// Cells that decide an aggregate or a comparison: the two codes that are no numbers, the ends of the range, 1 and 0.
-    const CELLS: [i32; 6] = [BLANK, OFF_SCALE, LARGEST, -LARGEST, 1, 0];
+    const CELLS: [i64; 6] = [BLANK, OFF_SCALE, LARGEST, -LARGEST, 1, 0];
+
+    /// Numbers that a comparison of 32 of their bits, or of their sum, or as numbers of 53 bits, would take for each other.
+    const WIDE_CELLS: [i64; 8] =
+        [7, 7 + (1 << 32), 8 + (1 << 32), 6 + (2 << 32), 7 - (1 << 32), 7 + (1 << 51), 8 + (1 << 52), -2_147_483_648];
 
     /// All lists of up to so many of these items.
     fn short_lists<T: Clone>(items: &[T], most: usize) -> Vec<Vec<T>> {
@@ -151,7 +156,7 @@ mod held {
 
     /// Plans that compare a left cell with a right one, over a table of these two as a row and one of a row for each, numbered 1 and 2: by
     /// a test of columns, and of a number where the right cell is one, without and with a not-mark; by the keys of a Pair and of a Group.
-    fn comparing(comparison: Comparison, right: i32) -> Vec<Plan> {
+    fn comparing(comparison: Comparison, right: i64) -> Vec<Plan> {
         let mut tests = vec![columns_test(0, comparison, 1)];
         if is_number(right) {
             tests.push(number_test(0, comparison, right));
@@ -181,14 +186,28 @@ mod held {
         assert_eq!(counts.unequal[1], [8, 1, 11]);
     }
 
+    #[test]
+    fn k13_comparisons_of_every_two_wide_cells_are_those_of_the_second_evaluator() {
+        let mut random = Random::new(21);
+        let mut counts = Counts::default();
+        for (left, right) in WIDE_CELLS.iter().flat_map(|&left| WIDE_CELLS.map(|right| (left, right))) {
+            let set = write_set(&[table(&[&[left, right]]), table(&[&[left, 1], &[right, 2]])]);
+            for plan in COMPARISONS.iter().flat_map(|&comparison| comparing(comparison, right)) {
+                let held = hold_report(&mut random, &set, &write_plan(&plan), &mut counts);
+                held.unwrap_or_else(|difference| panic!("{left}, {right}, {plan:?}: {difference}"));
+            }
+        }
+        println!("every two wide cells: reports {}", counts.reports[0]);
+    }
+
     /// The set of a table of these rows of two cells, each with its number in a third column, which tells equal rows apart.
-    fn numbered(cells: &[[i32; 2]]) -> Vec<u8> {
+    fn numbered(cells: &[[i64; 2]]) -> Vec<u8> {
         let rows = cells.iter().zip(1..).map(|(&[one, other], number)| vec![one, other, number]).collect();
         write_set(&[Table { columns: 3, rows }])
     }
 
     /// The archive's rows of a Sort of such a table, held against the second evaluator.
-    fn sorted(random: &mut Random, set: &[u8], down: bool, list: &[u8], counts: &mut Counts) -> Vec<Vec<i32>> {
+    fn sorted(random: &mut Random, set: &[u8], down: bool, list: &[u8], counts: &mut Counts) -> Vec<Vec<i64>> {
         let plan = write_plan(&sort(down, list, scan(0, 0)));
         let held = hold_report(random, set, &plan, counts);
         held.unwrap_or_else(|difference| panic!("down {down}, by {list:?}, {set:?}: {difference}"));
@@ -202,7 +221,7 @@ mod held {
         let mut random = Random::new(9);
         let mut counts = Counts::default();
         let codes = [BLANK, 0, OFF_SCALE];
-        let every_two: Vec<[i32; 2]> = codes.iter().flat_map(|&one| codes.map(|other| [one, other])).collect();
+        let every_two: Vec<[i64; 2]> = codes.iter().flat_map(|&one| codes.map(|other| [one, other])).collect();
         for cells in short_lists(&every_two, 4) {
             let set = numbered(&cells);
             for list in [&[0][..], &[1], &[0, 1], &[1, 0]] {

@@ -26,7 +26,7 @@ fn the_case_file_has_what_it_needs() {
         }
     }
     let size: usize = cases.iter().map(|case| 8 + case.set.len() + case.plan.len()).sum();
-    assert!(cases.len() >= 400 && size < 600_000, "{} cases, {size} bytes", cases.len());
+    assert!(cases.len() >= 400 && size < 1_000_000, "{} cases, {size} bytes", cases.len());
     assert!(cases.iter().filter(|case| case.routes.len() == 2).count() >= 60);
     assert!(cases.iter().filter(|case| case.routes.is_empty()).count() >= 80);
     for number in 1..=14 {

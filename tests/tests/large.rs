@@ -7,12 +7,16 @@ use second::check::{check_tree, columns};
 use second::evaluate::first_occurrences;
 use second::generate::Input;
 use second::held::{hold_rooms, hold_stay_notes, hold_unnest, Counts, Due};
-use second::keys::{arrange, in_bucket_of, rows_in_one_bucket, Order, ORDERS};
+use second::keys::{
+    alike_above, alike_below, anywhere, arrange, folded_alike, in_bucket_of, rows_in_one_bucket, Order, AROUND_POWERS,
+    ORDERS,
+};
 use second::large::{large, work, Met};
 use second::plan::Comparison::{Equal, Greater, Less, NotEqual};
 use second::plan::{Aggregate, Comparison, Plan, Test, ALWAYS, COMPARISONS};
 use second::random::Random;
 use second::tables::{write_set, Table};
+use second::wide::{summed_near_all, sums_of_all, wide_totals, Summed};
 
 /// How many random inputs are tried, and how many rows, or pairs of rows, the second evaluator may look at for one of them.
 const INPUTS: u64 = 4_000;
@@ -84,7 +88,7 @@ const RIGHT: [usize; 9] = [0, 1, 2, 31, 32, 33, 34, 64, 100];
 const LEFT: [usize; 5] = [0, 1, 2, 33, 70];
 
 /// Keys of every sort, each under its name; tables take them in turn.
-fn sorts_of_keys(random: &mut Random) -> Vec<(&'static str, Vec<i32>)> {
+fn sorts_of_keys(random: &mut Random) -> Vec<(&'static str, Vec<i64>)> {
     let one_bucket = in_bucket_of(random, 5, 50);
     // Numbers in the buckets of blank and of off scale, beside these.
     let [of_blank, of_off_scale] = [BLANK, OFF_SCALE].map(|cell| [in_bucket_of(random, cell, 4), vec![cell]].concat());
@@ -100,17 +104,22 @@ fn sorts_of_keys(random: &mut Random) -> Vec<(&'static str, Vec<i32>)> {
         ("blank, off scale and their buckets", [of_blank, of_off_scale].concat()),
         ("the ends", vec![LARGEST, -LARGEST, LARGEST - 1, 1 - LARGEST, BLANK, OFF_SCALE]),
         ("few with a blank", vec![1, 2, BLANK, 3, 1]),
+        ("alike in the lower half", alike_below(random, 1000)),
+        ("two alike in the lower half", alike_below(random, 2)),
+        ("alike in the upper half", alike_above(random, 1000)),
+        ("of one sum of their halves", folded_alike(random, 5, 50)),
+        ("around powers of two", [&AROUND_POWERS[..], &[BLANK, OFF_SCALE]].concat()),
     ]
 }
 
 /// A table of a key out of some, a cell of all sorts, a key of another step, and the row's number.
-fn keyed(keys: &[i32], height: usize, first: usize) -> Table {
+fn keyed(keys: &[i64], height: usize, first: usize) -> Table {
     let cells = [3, BLANK, -8, 0, LARGEST, 5, 5, OFF_SCALE, 1, -1, 2];
     let row = |row: usize| {
         let place = first + row;
         // Off scale is rare among the cells, so that most aggregates are numbers.
         let cell = if place % 61 == 7 { OFF_SCALE } else { cells[place % 7] };
-        vec![keys[place % keys.len()], cell, keys[(7 * place + 3) % keys.len()], row as i32]
+        vec![keys[place % keys.len()], cell, keys[(7 * place + 3) % keys.len()], row as i64]
     };
     Table { columns: 4, rows: (0..height).map(row).collect() }
 }
@@ -174,7 +183,7 @@ fn keys_of_every_sort_are_compared_on_a_thousand_rows() {
     // Rows that are different in both of two columns, or equal in both, all in one bucket.
     for (count, height) in [(2, 33), (20, 64), (40, 1000), (500, 1000)] {
         let shared = rows_in_one_bucket(&mut holder.random, count);
-        let row = |row: usize| [&shared[row * 7 % count][..], &[row as i32]].concat();
+        let row = |row: usize| [&shared[row * 7 % count][..], &[row as i64]].concat();
         let table = Table { columns: 3, rows: (0..height).map(row).collect() };
         let lists: [&[u8]; 4] = [&[0, 1], &[1, 0], &[1], &[1, 2, 0]];
         let name = format!("{count} rows in one bucket, {height} times");
@@ -208,9 +217,15 @@ fn over_a_cross() -> Vec<Plan> {
 fn keys_are_compared_on_crosses_of_4096_rows() {
     let mut holder = Holder::new(14);
     let shared = in_bucket_of(&mut holder.random, BLANK, 64);
-    let different: Vec<i32> = (0..65).collect();
-    let sorts_of_keys =
-        [("all different", &different[..]), ("two", &[1, 2]), ("one bucket", &shared), ("blank", &[BLANK])];
+    let different: Vec<i64> = (0..65).collect();
+    let alike = alike_below(&mut holder.random, 64);
+    let sorts_of_keys = [
+        ("all different", &different[..]),
+        ("two", &[1, 2]),
+        ("one bucket", &shared),
+        ("blank", &[BLANK]),
+        ("alike in the lower half", &alike),
+    ];
     for (name, keys) in sorts_of_keys {
         let table = |height: usize, first: usize| {
             let row = |row: usize| vec![keys[(row + first) % keys.len()], [LARGEST, -LARGEST][row % 2]];
@@ -226,10 +241,10 @@ fn keys_are_compared_on_crosses_of_4096_rows() {
 
 /// A table of eight columns to be sorted: the row's number; the keys in an order, twice, with one of three numbers between; a number that falls
 /// every five rows; and three that are equal in all rows.
-fn to_sort(random: &mut Random, keys: &[i32], height: usize, order: Order) -> Table {
-    let mut column: Vec<i32> = (0..height).map(|row| keys[row % keys.len()]).collect();
+fn to_sort(random: &mut Random, keys: &[i64], height: usize, order: Order) -> Table {
+    let mut column: Vec<i64> = (0..height).map(|row| keys[row % keys.len()]).collect();
     arrange(random, &mut column, order);
-    let row = |(row, key): (i32, i32)| vec![row, key, row % 3, key, -(row / 5), 9, 9, 9];
+    let row = |(row, key): (i64, i64)| vec![row, key, row % 3, key, -(row / 5), 9, 9, 9];
     Table { columns: 8, rows: (0..).zip(column).map(row).collect() }
 }
 
@@ -252,11 +267,73 @@ fn sorts_of_every_size_and_order() {
     print!("Sorts of 79 sizes in {} orders, reports {}, {}", ORDERS.len(), holder.reports, holder.met.sort_line());
 }
 
+/// So many numbers of each sort that a Sort may take for others: those that differ in one half of their bits alone, or that lie around
+/// -2^51 and 2^51 or beyond, or anywhere; with blank and off scale among them.
+fn wide_numbers(random: &mut Random, height: usize) -> Vec<(&'static str, Vec<i64>)> {
+    let around = |middle: i64| (0..height as i64).map(|number| middle + 5 * number - 40).collect::<Vec<i64>>();
+    let beyond = |random: &mut Random| random.pick(&[-1, 1]) * ((1 << 51) + random.below(1 << 52) as i64);
+    let mut all = vec![
+        ("alike in the lower half", alike_below(random, height)),
+        ("alike in the upper half", alike_above(random, height)),
+        ("around 2^51", around(1 << 51)),
+        ("around -2^51", around(-(1 << 51))),
+        ("beyond 2^51", (0..height).map(|_| beyond(random)).collect()),
+        ("anywhere", (0..height).map(|_| anywhere(random)).collect()),
+        ("around powers of two", (0..height).map(|_| random.pick(&AROUND_POWERS)).collect()),
+    ];
+    for (_, cells) in &mut all {
+        for cell in [BLANK, OFF_SCALE] {
+            if random.chance(50) {
+                cells[random.below(height)] = cell;
+            }
+        }
+    }
+    all
+}
+
+#[test]
+fn k13_sorts_of_wide_numbers_of_every_size() {
+    let mut holder = Holder::new(19);
+    for height in 2..=300 {
+        for (name, keys) in wide_numbers(&mut holder.random, height) {
+            let order = holder.random.pick(&ORDERS);
+            let table = to_sort(&mut holder.random, &keys, height, order);
+            // By the key alone, and by it after a column of three numbers.
+            let plans = [&[11][..], &[12, 11]].map(|list| sort(holder.random.chance(50), list, scan(0, 10)));
+            holder.hold(&format!("{height} rows, {name}, {order:?}"), &[table], plans.to_vec());
+        }
+    }
+    print!("Sorts of wide numbers, of 2 to 300 rows, reports {}, {}", holder.reports, holder.met.sort_line());
+}
+
+#[test]
+fn k13_sums_are_exact_beyond_64_bits() {
+    let mut holder = Holder::new(20);
+    for Summed { tables, total } in summed_near_all(&mut holder.random) {
+        holder.hold(&format!("a total of {total}"), &tables, sums_of_all().to_vec());
+    }
+    // As many of the largest as of the least number, 4,096 in all; and all rows but one or two of one sign.
+    for others in [0, 1, 2, 31, 32] {
+        let cell = |row: usize| if row < others { -LARGEST } else { LARGEST };
+        for sign in [1, -1] {
+            let rows = (0..64).map(|row| vec![row as i64 % 2, sign * cell(row)]).collect();
+            let tables = [Table { columns: 2, rows }, one_column(&[7; 64])];
+            holder.hold(&format!("64 times {others} of 64"), &tables, sums_of_all().to_vec());
+        }
+    }
+    for _ in 0..300 {
+        let Input { tables, plan } = wide_totals(&mut holder.random);
+        holder.hold("drawn", &tables, vec![plan]);
+    }
+    print!("sums beyond 64 bits, reports {}, {}", holder.reports, holder.counts.left_line());
+    assert!(holder.counts.left.iter().all(|&count| count > 100), "{:?}", holder.counts.left);
+}
+
 /// A table of 16 columns whose cells tell their places, but for a third of them, which are small keys.
 fn wide(height: usize) -> Table {
     let cell = |row: usize, column: usize| match (row + column) % 3 {
-        0 => (row * column % 5) as i32,
-        _ => (100 * column + row) as i32,
+        0 => (row * column % 5) as i64,
+        _ => (100 * column + row) as i64,
     };
     let rows = (0..height).map(|row| (0..16).map(|column| cell(row, column)).collect()).collect();
     Table { columns: 16, rows }

@@ -15,7 +15,7 @@ use second::tables::{write_set, Table};
 use std::slice;
 
 /// The report's rows, of an accepted plan.
-fn rows(tables: &[Table], plan: &Plan) -> Vec<Vec<i32>> {
+fn rows(tables: &[Table], plan: &Plan) -> Vec<Vec<i64>> {
     let answer = report(&write_set(tables), &write_plan(plan), ROOMY, ROOMY).expect("a report");
     match answer.columns {
         0 => vec![vec![]; answer.rows],
@@ -29,7 +29,7 @@ fn refusal(tables: &[Table], plan: &Plan) -> Option<u8> {
 }
 
 /// The aggregate of one column of codes.
-fn aggregate(codes: &[i32], aggregate: Aggregate) -> i32 {
+fn aggregate(codes: &[i64], aggregate: Aggregate) -> i64 {
     rows(&[one_column(codes)], &fold(aggregate, 9, ALWAYS, Plan::Unit, scan(0, 0)))[0][0]
 }
 
@@ -49,7 +49,8 @@ fn m1_and_m2_cross_at_the_bound() {
 
 #[test]
 fn m3_and_m4_sums_at_the_range() {
-    assert_eq!(aggregate(&[1_999_999_999, 1], Aggregate::Sum(0)), LARGEST);
+    assert_eq!(LARGEST, 9_000_000_000_000_000);
+    assert_eq!(aggregate(&[8_999_999_999_999_999, 1], Aggregate::Sum(0)), LARGEST);
     assert_eq!(aggregate(&[LARGEST, 1], Aggregate::Sum(0)), OFF_SCALE);
     assert_eq!(aggregate(&[-LARGEST, -1], Aggregate::Sum(0)), OFF_SCALE);
     // The exact total counts, not a running one; many cells stay exact.
@@ -61,7 +62,7 @@ fn m3_and_m4_sums_at_the_range() {
 fn m5_every_over_no_inner_rows() {
     let tables = [one_column(&[5, BLANK]), one_column(&[])];
     assert_eq!(rows(&tables, &every(NEVER, scan(0, 0), scan(1, 1))), [[5], [BLANK]]);
-    assert_eq!(rows(&tables, &some(ALWAYS, scan(0, 0), scan(1, 1))), Vec::<Vec<i32>>::new());
+    assert_eq!(rows(&tables, &some(ALWAYS, scan(0, 0), scan(1, 1))), Vec::<Vec<i64>>::new());
 }
 
 #[test]
@@ -115,17 +116,17 @@ fn the_table_of_refusals() {
     let unit = write_plan(&Plan::Unit);
     let number = |set: &[u8], plan: &[u8]| read(set, plan).err();
     assert_eq!(number(b"TB", &unit), Some(1));
-    assert_eq!(number(b"TBX\x01\x00\x01\x00\x00", &unit), Some(2));
-    assert_eq!(number(b"TBL\x01\x00\x11\x00\x00", &unit), Some(3));
-    assert_eq!(number(&write_set(&[one_column(&[2_000_000_001])]), &unit), Some(4));
+    assert_eq!(number(b"TBX\x02\x00\x01\x00\x00", &unit), Some(2));
+    assert_eq!(number(b"TBL\x02\x00\x11\x00\x00", &unit), Some(3));
+    assert_eq!(number(&write_set(&[one_column(&[9_000_000_000_000_001])]), &unit), Some(4));
     assert_eq!(number(&write_set(&vec![sized(1, 1); 9]), &unit), Some(5));
     assert_eq!(number(&write_set(&vec![sized(1, 1); 8]), &unit), None);
     assert_eq!(number(b"", &unit[..5]), Some(6));
-    assert_eq!(number(b"", b"RPT\x02\x00\x01"), Some(7));
-    assert_eq!(number(b"", b"RPT\x01\x00\x00"), Some(8));
-    assert_eq!(number(b"", b"RPT\x01\x00\x01"), Some(6));
-    assert_eq!(number(b"", &[&b"RPT\x01\x00\x01\x0f"[..], &[0; 23]].concat()), Some(9));
-    assert_eq!(number(b"", &[&b"RPT\x01\x00\x01\x02"[..], &[0; 23]].concat()), Some(10));
+    assert_eq!(number(b"", b"RPT\x01\x00\x01"), Some(7));
+    assert_eq!(number(b"", b"RPT\x02\x00\x00"), Some(8));
+    assert_eq!(number(b"", b"RPT\x02\x00\x01"), Some(6));
+    assert_eq!(number(b"", &[&b"RPT\x02\x00\x01\x0f"[..], &[0; 31]].concat()), Some(9));
+    assert_eq!(number(b"", &[&b"RPT\x02\x00\x01\x02"[..], &[0; 31]].concat()), Some(10));
     assert_eq!(refusal(&[], &scan(0, 0)), Some(11));
     assert_eq!(refusal(&[sized(4, 1)], &project(&[3, 3], scan(0, 0))), Some(12));
     let wide = cross(cross(scan(0, 0), scan(0, 16)), scan(1, 32));
@@ -148,11 +149,11 @@ fn of_two_faults_the_first_in_order_decides() {
     assert_eq!(number(b"", &childless), Some(10));
     childless[HEADER + 3 * NODE + 7] = 1;
     assert_eq!(number(b"", &childless), Some(9));
-    let mut second_version = write_set(&[one_column(&[LARGEST + 1]), sized(1, 1)]);
-    second_version[12 + 3] = 2;
-    assert_eq!(number(&second_version, &unit), Some(4));
+    let mut other_version = write_set(&[one_column(&[LARGEST + 1]), sized(1, 1)]);
+    other_version[16 + 3] = 1;
+    assert_eq!(number(&other_version, &unit), Some(4));
     assert_eq!(number(b"TBL", &unit[..5]), Some(1));
-    assert_eq!(number(b"", b"RPT\x01\x00\x00\x00"), Some(8));
+    assert_eq!(number(b"", b"RPT\x02\x00\x00\x00"), Some(8));
     let unseen = select(ALWAYS, select(number_test(9, Equal, 1), scan(5, 0)));
     assert_eq!(refusal(&[sized(1, 1)], &unseen), Some(11));
     let wide = cross(cross(scan(0, 0), scan(0, 16)), scan(1, 32));
@@ -207,7 +208,7 @@ fn group_never_matches_blank_with_blank() {
 fn sort_is_by_code_stable_upward_and_its_mirror_downward() {
     let tables = [table(&[&[1, 10], &[BLANK, 11], &[1, 12], &[OFF_SCALE, 13], &[-5, 14]])];
     let order =
-        |down| -> Vec<i32> { rows(&tables, &sort(down, &[0], scan(0, 0))).into_iter().map(|row| row[1]).collect() };
+        |down| -> Vec<i64> { rows(&tables, &sort(down, &[0], scan(0, 0))).into_iter().map(|row| row[1]).collect() };
     assert_eq!(order(false), [11, 14, 10, 12, 13]);
     assert_eq!(order(true), [13, 12, 10, 14, 11]);
 }
@@ -354,7 +355,7 @@ fn u6_takes_off_no_select() {
 
 #[test]
 fn a_bound_that_grows_over_the_limit_keeps_a_rule_from_fitting() {
-    let keyed = |height: usize| one_column(&(0..height).map(|row| (row % 4) as i32).collect::<Vec<_>>());
+    let keyed = |height: usize| one_column(&(0..height).map(|row| (row % 4) as i64).collect::<Vec<_>>());
     let semi = semi(0, 1, ALWAYS, distinct(&[0], scan(0, 0)), scan(1, 1));
     let plan = cross(semi, scan(2, 2));
     let other = sized(1, 64);
@@ -379,7 +380,7 @@ fn by_player(aggregate: Aggregate, comparison: Comparison) -> [Plan; 3] {
 }
 
 /// Checks that the Fold, the Pair and the Group give these rows of a player and an aggregate.
-fn all_three_give(cards: &Table, aggregate: Aggregate, comparison: Comparison, expected: &[[i32; 2]]) {
+fn all_three_give(cards: &Table, aggregate: Aggregate, comparison: Comparison, expected: &[[i64; 2]]) {
     for plan in by_player(aggregate, comparison) {
         assert_eq!(rows(&[cards.clone()], &plan), expected, "{plan:?}");
     }
@@ -388,7 +389,7 @@ fn all_three_give(cards: &Table, aggregate: Aggregate, comparison: Comparison, e
 #[test]
 fn k2_a_blank_that_passes_makes_the_sum_blank() {
     // First, between and last; alone and twice; none.
-    let scores: [(i32, &[i32]); 6] =
+    let scores: [(i64, &[i64]); 6] =
         [(7, &[BLANK, 36]), (9, &[40, BLANK, 2]), (4, &[31, BLANK]), (5, &[BLANK]), (6, &[BLANK; 2]), (8, &[20, -50])];
     let cards = cards(&scores, &[]);
     let totals = [[7, BLANK], [9, BLANK], [4, BLANK], [5, BLANK], [6, BLANK], [8, -30]];
@@ -426,7 +427,7 @@ fn k2_a_blank_whose_key_is_not_met_counts_nowhere() {
 
 #[test]
 fn k2_off_scale_wins_over_a_blank_in_both_orders() {
-    let scores: [(i32, &[i32]); 5] = [
+    let scores: [(i64, &[i64]); 5] = [
         (1, &[OFF_SCALE, BLANK]),
         (2, &[BLANK, OFF_SCALE]),
         (3, &[BLANK, 5, OFF_SCALE, BLANK]),
@@ -444,7 +445,7 @@ fn k2_off_scale_wins_over_a_blank_in_both_orders() {
 
 #[test]
 fn k2_a_blank_is_decided_before_the_range_of_the_total() {
-    let scores: [(i32, &[i32]); 5] = [
+    let scores: [(i64, &[i64]); 5] = [
         (1, &[LARGEST, 1, BLANK]),
         (2, &[-1, BLANK, -LARGEST]),
         // With no blank that counts the range decides, by the exact total.
@@ -614,7 +615,7 @@ fn k5_12_and_13_in_the_whole_plan_come_before_14() {
 }
 
 /// The note for a Semi, an Anti and a Pair, the same for all three, where e's cells and the right keys are these.
-fn note(cells: &[i32], right_keys: &[i32]) -> Option<usize> {
+fn note(cells: &[i64], right_keys: &[i64]) -> Option<usize> {
     let tables = [one_column(cells), one_column(right_keys)];
     note_of(&tables, (&distinct(&[0], scan(0, 0)), 0), (&scan(1, 1), 1))
 }
@@ -655,7 +656,7 @@ fn k8_a_note_gives_the_smallest_position() {
     assert_eq!(note(&[7, 7, 9], &[7, 9, 9, 7]), None);
     assert_eq!(note(&[], &[]), None);
     // The last position of the tallest tables.
-    let tall: Vec<i32> = (0..1000).collect();
+    let tall: Vec<i64> = (0..1000).collect();
     assert_eq!(note(&tall, &tall[..999]), Some(999));
     assert_eq!(note(&[&tall[..999], &[-1]].concat(), &tall), Some(999));
 }
@@ -680,7 +681,7 @@ fn k8_codes_decide_where_the_sequences_differ() {
 #[test]
 fn k9_the_whole_table_of_comparisons() {
     // Two sides, and which of the six comparisons hold of them.
-    let sides: [(i32, i32, &[Comparison]); 11] = [
+    let sides: [(i64, i64, &[Comparison]); 11] = [
         (3, 4, &[NotEqual, Less, AtMost]),
         (4, 4, &[Equal, AtMost, AtLeast]),
         (4, 3, &[NotEqual, Greater, AtLeast]),
@@ -746,7 +747,7 @@ fn k9_two_columns_that_are_not_equal() {
 }
 
 /// Checks that unnesting takes these rules, each at place 0, and that all plans on the way give these rows.
-fn unnests_by<const WIDTH: usize>(tables: &[Table], plan: &Plan, rules: &[u8], expected: &[[i32; WIDTH]]) {
+fn unnests_by<const WIDTH: usize>(tables: &[Table], plan: &Plan, rules: &[u8], expected: &[[i64; WIDTH]]) {
     let (steps, passed) = unnest_tree(plan, tables);
     assert_eq!(steps, rules.iter().map(|&rule| (rule, 0)).collect::<Vec<_>>());
     for plan in passed {
@@ -756,7 +757,7 @@ fn unnests_by<const WIDTH: usize>(tables: &[Table], plan: &Plan, rules: &[u8], e
 
 #[test]
 fn k9_some_and_every_with_a_number() {
-    let scores: [(i32, &[i32]); 6] =
+    let scores: [(i64, &[i64]); 6] =
         [(7, &[36, BLANK]), (9, &[10, BLANK]), (4, &[BLANK]), (5, &[10]), (6, &[OFF_SCALE, 12]), (8, &[OFF_SCALE])];
     let tables = [cards(&scores, &[])];
     let players = || distinct(&[0], scan(0, 0));
@@ -784,7 +785,7 @@ fn k9_some_and_every_with_a_number() {
 fn k9_some_and_every_with_a_column_of_the_left_row() {
     // Members with their handicaps, and their cards.
     let members = table(&[&[1, 10], &[2, BLANK], &[3, BLANK], &[4, OFF_SCALE], &[5, 10]]);
-    let scores: [(i32, &[i32]); 5] =
+    let scores: [(i64, &[i64]); 5] =
         [(1, &[12, BLANK]), (2, &[10, 12]), (3, &[BLANK, 10]), (4, &[10, BLANK]), (5, &[OFF_SCALE, BLANK])];
     let tables = [members, cards(&scores, &[])];
     let cards_of = || select(columns_test(0, Equal, 10), scan(1, 10));
@@ -799,10 +800,10 @@ fn k9_some_and_every_with_a_column_of_the_left_row() {
 }
 
 /// Checks count, sum and least that the Fold, the Pair and the Group give each player, over the player's cards that pass a test.
-fn all_three_give_under(cards: &Table, test: Test, expected: &[[i32; 4]]) {
+fn all_three_give_under(cards: &Table, test: Test, expected: &[[i64; 4]]) {
     let aggregates = [Aggregate::Count, Aggregate::Sum(12), Aggregate::Least(12)];
     for (place, aggregate) in aggregates.into_iter().enumerate() {
-        let of_players: Vec<[i32; 2]> = expected.iter().map(|row| [row[0], row[1 + place]]).collect();
+        let of_players: Vec<[i64; 2]> = expected.iter().map(|row| [row[0], row[1 + place]]).collect();
         for plan in by_player(aggregate, Equal) {
             assert_eq!(rows(&[cards.clone()], &with_test(plan, test)), of_players, "{aggregate:?}, {test:?}");
         }
@@ -908,18 +909,18 @@ fn k9_blanks_that_a_plan_makes() {
 }
 
 /// A table of these rows, each with its number, from 1, in a last column.
-fn numbered(rows: &[&[i32]]) -> Table {
-    let rows: Vec<Vec<i32>> = rows.iter().zip(1..).map(|(row, number)| [row, &[number][..]].concat()).collect();
+fn numbered(rows: &[&[i64]]) -> Table {
+    let rows: Vec<Vec<i64>> = rows.iter().zip(1..).map(|(row, number)| [row, &[number][..]].concat()).collect();
     Table { columns: rows.first().map_or(1, |row| row.len()), rows }
 }
 
 /// The rows' numbers, in the order in which a plan over a numbered table gives them.
-fn order(table: &Table, plan: &Plan) -> Vec<i32> {
+fn order(table: &Table, plan: &Plan) -> Vec<i64> {
     rows(slice::from_ref(table), plan).iter().map(|row| row[row.len() - 1]).collect()
 }
 
 /// Checks the order in which a Sort by this list gives the rows of a numbered table, upward and downward.
-fn sorts_by(table: &Table, list: &[u8], upward: &[i32], downward: &[i32]) {
+fn sorts_by(table: &Table, list: &[u8], upward: &[i64], downward: &[i64]) {
     assert_eq!(order(table, &sort(false, list, scan(0, 0))), upward, "upward by {list:?}");
     assert_eq!(order(table, &sort(true, list, scan(0, 0))), downward, "downward by {list:?}");
 }
@@ -1010,8 +1011,8 @@ fn k3_any_number_of_rows() {
     sorts_by(&Table { columns: 2, rows: vec![] }, &[0], &[], &[]);
     for height in [1, 2, 3, 4, 5, 999, 1000] {
         let equal = numbered(&vec![&[7][..]; height]);
-        let forward: Vec<i32> = (1..=height as i32).collect();
-        let backward: Vec<i32> = (1..=height as i32).rev().collect();
+        let forward: Vec<i64> = (1..=height as i64).collect();
+        let backward: Vec<i64> = (1..=height as i64).rev().collect();
         sorts_by(&equal, &[0], &forward, &backward);
         // By the number itself no rows are equal.
         sorts_by(&equal, &[1], &forward, &backward);
@@ -1066,7 +1067,7 @@ fn k3_the_mirror_holds_for_every_list_of_columns() {
         let (upward, downward) = (sorted(false), sorted(true));
         assert!(downward.iter().eq(upward.iter().rev()), "{list:?}");
         // Each row before the next one: by the listed cells, and where all are equal by its number.
-        let place = |row: &Vec<i32>| -> Vec<i32> { list.iter().chain(&[3]).map(|&id| row[usize::from(id)]).collect() };
+        let place = |row: &Vec<i64>| -> Vec<i64> { list.iter().chain(&[3]).map(|&id| row[usize::from(id)]).collect() };
         assert!(upward.windows(2).all(|two| place(&two[0]) < place(&two[1])), "upward by {list:?}");
         assert!(downward.windows(2).all(|two| place(&two[0]) > place(&two[1])), "downward by {list:?}");
         assert_eq!(downward.len(), 9);
@@ -1162,12 +1163,12 @@ fn k3_sequences_of_two_lists() {
 fn k3_notes_over_a_downward_sort_give_the_smallest_position() {
     let list = sort(true, &[10], scan(0, 10));
     let kept = sort(true, &[10], list.clone());
-    let note = |players: &[i32], f: &Plan| {
+    let note = |players: &[i64], f: &Plan| {
         let tables = [scores_and_players(), one_column(players)];
         note_of(&tables, (&distinct(&[0], scan(1, 0)), 0), (f, 11))
     };
     // Players, and the positions beside 5, 9, 4, 7 of the list and beside 5, 7, 4, 9 of equal rows as they came.
-    let notes: [(&[i32], usize, usize); 6] = [
+    let notes: [(&[i64], usize, usize); 6] = [
         (&[5, 9, 4], 3, 1),
         (&[5, 9, 7, 4], 2, 1),
         (&[5, 7, 9, 4], 1, 2),
@@ -1203,7 +1204,7 @@ fn stays_after<const WIDTH: usize>(
     tables: &[Table],
     plan: &Plan,
     rules: &[u8],
-    expected: &[[i32; WIDTH]],
+    expected: &[[i64; WIDTH]],
     position: Option<usize>,
 ) {
     unnests_by(tables, plan, rules, expected);

@@ -7,6 +7,7 @@ use second::check::check_tree;
 use second::generate::Input;
 use second::held::{hold_rooms, hold_unnest, Counts, Due};
 use second::listings::Run;
+use second::nodes::LARGEST_PLAN;
 use second::plan::Comparison::{Equal, Less};
 use second::plan::{Aggregate, Plan, ALWAYS};
 use second::random::Random;
@@ -24,7 +25,7 @@ const LIMIT: usize = 512;
 const NODE_LIMIT: usize = 4096;
 
 /// The most stack, in KiB, that the listing program may need. Most systems give 8,192.
-const PROGRAM_LIMIT: usize = 4096;
+const PROGRAM_LIMIT: usize = 6144;
 
 /// A stack of 32 MiB has room for some hundred KiB in each frame of 64.
 const STACK: usize = 32 << 20;
@@ -32,8 +33,8 @@ const STACK: usize = 32 << 20;
 /// The tables that the deepest plans are over: 0 and 1 of the given height with two columns, all keys of the first different, 2 with one
 /// column and one row, and 3 with one column.
 fn tables(height: usize) -> Vec<Table> {
-    let rows = |factor: usize| (0..height).map(|row| vec![(row * factor % 1009) as i32, (row % 7) as i32]).collect();
-    let keys: Vec<i32> = (0..height as i32).collect();
+    let rows = |factor: usize| (0..height).map(|row| vec![(row * factor % 1009) as i64, (row % 7) as i64]).collect();
+    let keys: Vec<i64> = (0..height as i64).collect();
     vec![Table { columns: 2, rows: rows(5) }, Table { columns: 2, rows: rows(11) }, one_column(&[3]), one_column(&keys)]
 }
 
@@ -174,7 +175,7 @@ fn taken(stack: &mut Stack, input: &Input) -> [usize; 3] {
     let (set, plan) = (input.set_bytes(), input.plan_bytes());
     // More than any of the plans here needs, and any that they are unnested into.
     let mut scratch = vec![0; 1 << 20];
-    let (mut out, mut out_plan, mut out_steps) = (vec![0; 1 << 17], vec![0; 1542], vec![0; 384]);
+    let (mut out, mut out_plan, mut out_steps) = (vec![0; 1 << 17], vec![0; LARGEST_PLAN], vec![0; 384]);
     let mut words = [0; 3];
     let bytes = [
         stack.taken_by(&mut || words[0] = report_in(&set, &plan, &mut out, &mut scratch)),

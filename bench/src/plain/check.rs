@@ -7,7 +7,7 @@ use second::plan::{Comparison, Form, Test};
 /// What a side of a test looks at: a number, or a place in the outer rows, in the left row or in the row itself.
 #[derive(Clone, Copy)]
 pub enum Side {
-    Code(i32),
+    Code(i64),
     Outer(usize),
     Left(usize),
     Own(usize),
@@ -29,7 +29,7 @@ pub fn place(id: u8, ids: &[u8]) -> usize {
 
 /// Whether a cell holds a number.
 #[inline]
-pub fn holds_number(cell: i32) -> bool {
+pub fn holds_number(cell: i64) -> bool {
     cell != BLANK && cell != OFF_SCALE
 }
 
@@ -58,7 +58,7 @@ impl Check {
     }
 
     /// What it asks of a row within these outer rows and beside this left row. A test of the row alone is within no rows and beside none.
-    pub fn given(&self, outer: &[i32], left: &[i32]) -> Filter {
+    pub fn given(&self, outer: &[i64], left: &[i64]) -> Filter {
         let put = |side| match side {
             Side::Outer(place) => Side::Code(outer[place]),
             Side::Left(place) => Side::Code(left[place]),
@@ -89,12 +89,12 @@ impl Check {
         if greatest < least {
             return Filter::Fixed(self.not);
         }
-        Filter::Cell(place, Range { least, more: (greatest as u32).wrapping_sub(least as u32), not: self.not })
+        Filter::Cell(place, Range { least, more: (greatest as u64).wrapping_sub(least as u64), not: self.not })
     }
 
     /// Whether a row passes a test of the row alone.
     #[inline]
-    fn passes(&self, row: &[i32]) -> bool {
+    fn passes(&self, row: &[i64]) -> bool {
         let cell = |side| match side {
             Side::Code(code) => code,
             Side::Own(place) => row[place],
@@ -114,7 +114,7 @@ pub enum Filter {
 
 impl Filter {
     #[inline]
-    pub fn passes(self, row: &[i32]) -> bool {
+    pub fn passes(self, row: &[i64]) -> bool {
         match self {
             Filter::Fixed(outcome) => outcome,
             Filter::Cell(place, range) => range.contains(row[place]),
@@ -123,7 +123,7 @@ impl Filter {
     }
 
     /// Gives on the rows that pass, with a loop for each form.
-    pub fn for_each(self, rows: &Rows, give: impl FnMut(&[i32])) {
+    pub fn for_each(self, rows: &Rows, give: impl FnMut(&[i64])) {
         match self {
             Filter::Fixed(false) => {}
             Filter::Fixed(true) => rows.iter().for_each(give),
@@ -145,14 +145,14 @@ impl Filter {
 /// Codes from a least one on, so many and one, or all others where it is turned round.
 #[derive(Clone, Copy)]
 pub struct Range {
-    least: i32,
-    more: u32,
+    least: i64,
+    more: u64,
     not: bool,
 }
 
 impl Range {
     #[inline]
-    pub fn contains(self, code: i32) -> bool {
-        (code.wrapping_sub(self.least) as u32 <= self.more) != self.not
+    pub fn contains(self, code: i64) -> bool {
+        (code.wrapping_sub(self.least) as u64 <= self.more) != self.not
     }
 }

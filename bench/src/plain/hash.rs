@@ -5,8 +5,8 @@ const MULTIPLIER: u64 = 0xf135_7aea_2e62_a9c5;
 
 /// The hash of cells. Its upper bits are the mixed ones.
 #[inline]
-pub fn hash(cells: &[i32]) -> u64 {
-    cells.iter().fold(0, |hash: u64, &cell| (hash.rotate_left(5) ^ u64::from(cell as u32)).wrapping_mul(MULTIPLIER))
+pub fn hash(cells: &[i64]) -> u64 {
+    cells.iter().fold(0, |hash: u64, &cell| (hash.rotate_left(5) ^ cell as u64).wrapping_mul(MULTIPLIER))
 }
 
 /// The numbers 0, 1, 2 and so on, in chains of those that fall together. A link is 0 at a chain's end, or else a number and 1.
@@ -49,7 +49,7 @@ impl Chains {
 /// Keys, numbered in the order in which they came.
 pub struct Keys {
     chains: Chains,
-    pub keys: Vec<i32>,
+    pub keys: Vec<i64>,
 }
 
 impl Keys {
@@ -60,20 +60,20 @@ impl Keys {
 
     /// Puts a key in, again where it is in already.
     #[inline]
-    pub fn put(&mut self, key: i32) {
+    pub fn put(&mut self, key: i64) {
         self.chains.put(hash(&[key]));
         self.keys.push(key);
     }
 
     /// The number of a key that is in.
     #[inline]
-    pub fn find(&self, key: i32) -> Option<usize> {
+    pub fn find(&self, key: i64) -> Option<usize> {
         self.chains.find(hash(&[key]), |number| self.keys[number] == key)
     }
 
     /// The number of a key, which is put in where it is new.
     #[inline]
-    pub fn number(&mut self, key: i32) -> usize {
+    pub fn number(&mut self, key: i64) -> usize {
         self.find(key).unwrap_or_else(|| {
             self.put(key);
             self.keys.len() - 1

@@ -80,7 +80,7 @@ impl<'t> Inner<'t> {
     }
 
     /// Gives each left row and its inner rows on. They are made once where they are the same for all left rows.
-    pub fn for_each(&self, lefts: &Rows, outer: &[i32], mut give: impl FnMut(&[i32], &Rows)) {
+    pub fn for_each(&self, lefts: &Rows, outer: &[i64], mut give: impl FnMut(&[i64], &Rows)) {
         let mut view = outer.to_vec();
         view.resize(outer.len() + lefts.width, 0);
         if !self.names_left {

@@ -39,7 +39,7 @@ pub fn distinct<'t>(list: &[u8], child: Prepared<'t>) -> Run<'t> {
     Box::new(move |outer| {
         let given = (child.run)(outer);
         let width = places.len();
-        let mut cells: Vec<i32> = Vec::with_capacity(given.count() * width);
+        let mut cells: Vec<i64> = Vec::with_capacity(given.count() * width);
         let mut chains = Chains::new(given.count());
         for row in given.iter() {
             let end = cells.len();
@@ -76,7 +76,7 @@ pub fn sort<'t>(down: bool, list: &[u8], child: Prepared<'t>) -> Run<'t> {
 }
 
 /// The order, by the cells at some places, of the rows that start at one cell and at another.
-fn order(cells: &[i32], one: usize, other: usize, places: &[usize]) -> Ordering {
+fn order(cells: &[i64], one: usize, other: usize, places: &[usize]) -> Ordering {
     for &place in places {
         let (left, right) = (cells[one + place], cells[other + place]);
         if left != right {

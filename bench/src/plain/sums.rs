@@ -7,28 +7,28 @@ use super::{Prepared, Rows, Run, View};
 use second::cells::{is_number, BLANK, OFF_SCALE};
 use second::plan::{Aggregate, Comparison, Keys as KeyIds, Plan, Test};
 
-/// A sum on its way.
+/// A sum on its way. 4,096 numbers can leave 64 bits.
 #[derive(Clone, Copy, Default)]
 struct Sum {
-    sum: i64,
+    sum: i128,
     blank: bool,
     off_scale: bool,
 }
 
 impl Sum {
     #[inline]
-    fn add(&mut self, cell: i32) {
+    fn add(&mut self, cell: i64) {
         match cell {
             BLANK => self.blank = true,
             OFF_SCALE => self.off_scale = true,
-            number => self.sum += i64::from(number),
+            number => self.sum += i128::from(number),
         }
     }
 
     /// An off-scale cell wins, then a blank one, then a sum outside of the range.
     #[inline]
-    fn cell(self) -> i32 {
-        match i32::try_from(self.sum) {
+    fn cell(self) -> i64 {
+        match i64::try_from(self.sum) {
             _ if self.off_scale => OFF_SCALE,
             _ if self.blank => BLANK,
             Ok(sum) if is_number(sum) => sum,
@@ -54,7 +54,7 @@ fn summed(aggregate: Aggregate, ids: &[u8]) -> Summed {
 
 impl Summed {
     #[inline]
-    fn cell(self, row: &[i32]) -> i32 {
+    fn cell(self, row: &[i64]) -> i64 {
         match self {
             Summed::Ones => 1,
             Summed::Place(place) => row[place],
@@ -63,7 +63,7 @@ impl Summed {
 }
 
 /// The aggregate over the rows that pass two tests.
-fn total(rows: &Rows, one: Filter, other: Filter, summed: Summed) -> i32 {
+fn total(rows: &Rows, one: Filter, other: Filter, summed: Summed) -> i64 {
     let mut sum = Sum::default();
     one.for_each(rows, |row| {
         if other.passes(row) {
@@ -119,7 +119,7 @@ pub fn pair<'t>(
 /// The keys in the order of their first rows, and the aggregate over the rows of each.
 struct Sums {
     keys: Keys,
-    cells: Vec<i32>,
+    cells: Vec<i64>,
 }
 
 impl Sums {
@@ -141,7 +141,7 @@ impl Sums {
 
     /// The aggregate for a key, 0 where there is no such key.
     #[inline]
-    fn cell(&self, key: i32) -> i32 {
+    fn cell(&self, key: i64) -> i64 {
         self.keys.find(key).map_or(0, |number| self.cells[number])
     }
 }

@@ -7,7 +7,7 @@ use mathlib.Core.Path.{_≡_, refl, ap, ap₂}
 use lib.Dec.{eqb}
 use lib.ListN.{length}
 use Rattle.algebra.specs.Lists.{filter, any, total}
-use Rattle.algebra.specs.Cells.{Summary, sum, least, greatest, over, blank, offScale, isBlank, needsAll, sumOf, summary, aggregate}
+use Rattle.algebra.specs.Cells.{Summary, sum, least, greatest, over, blank, offScale, isBlank, needsAll, sumOf, summary, aggregate, aggregateWithin}
 
 -- ---- an element that fails the test makes no difference
 module _ (p : ℕ → Bool) (x : ℕ) (fails : p x ≡ false) where
@@ -32,22 +32,22 @@ filter-all p (x ∷ xs) h =
 
 -- one cell off scale: each of them is off scale
 pub off-scale-wins : (k : Summary) (column : ℕ) (xs : List ℕ) → any (eqb offScale) xs ≡ true → aggregate (over k column) xs ≡ offScale
-unfolding aggregate
+unfolding aggregateWithin
 off-scale-wins k column xs off = rw off
 
 -- none off scale and one blank: the sum is blank, whatever the numbers come to
 pub sum-missing : (column : ℕ) (xs : List ℕ) → any (eqb offScale) xs ≡ false → any isBlank xs ≡ true → aggregate (over sum column) xs ≡ blank
-unfolding aggregate
+unfolding aggregateWithin
 sum-missing column xs scaled missing = rw (scaled, missing)
 
 -- none off scale and none blank: the sum of all of them, 0 for none
 pub sum-whole : (column : ℕ) (xs : List ℕ) → any (eqb offScale) xs ≡ false → any isBlank xs ≡ false → aggregate (over sum column) xs ≡ sumOf (length xs) (total xs)
-unfolding aggregate
+unfolding aggregateWithin
 sum-whole column xs scaled whole = rw (scaled, whole) (ap (summary sum) (filter-all isBlank xs whole))
 
 -- a blank makes no difference to the least and the greatest
 pub blank-skipped : (k : Summary) (column : ℕ) (xs ys : List ℕ) → (k ≡ least) ⊎ (k ≡ greatest) → aggregate (over k column) (xs ++ (blank ∷ ys)) ≡ aggregate (over k column) (xs ++ ys)
-unfolding aggregate
+unfolding aggregateWithin
 blank-skipped k column xs ys h =
     rw (skips h)
     (ap₂ (λ (b : Bool) (l : List ℕ). cond b offScale (summary k l)) (any-without (eqb offScale) blank refl xs ys) (filter-without (λ x. not (isBlank x)) blank refl xs ys))

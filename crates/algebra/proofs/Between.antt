@@ -9,7 +9,7 @@ use lib.Dec.{eqb}
 use borrow.Author.Tests.{eqb-true, not-true}
 use Rattle.algebra.specs.Lists.{filter, all, flatMap, member}
 use Rattle.algebra.specs.Cells.{Aggregate, aggregate}
-use Rattle.algebra.specs.Plans.{Row, Env, Tables, Test, names, holds, select, project, distinct, group, sort, Binary, quant, fold, Plan, leaf, one, two, columns, bind, measure, gather, quantify, emit, cut, act, joined, eval}
+use Rattle.algebra.specs.Plans.{Row, Env, Tables, Test, names, holds, select, project, distinct, group, sort, Binary, quant, fold, Plan, leaf, one, two, columns, bind, measure, gatherWithin, quantify, emitWithin, cut, actWithin, joinedWithin, eval, evalWithin}
 use Rattle.algebra.specs.Names.{measured}
 use Rattle.algebra.specs.Rules.{unprojected, Sequence, unnest}
 use Rattle.algebra.specs.Steps.{weight}
@@ -100,7 +100,7 @@ module _ (T : Tables) where
 
   -- then Some, Every and Fold give the same rows without it
   pub drop-quant : (m : Bool) (t : Test) (e : Plan) {f g : Plan} (u : Under f g) → Shown (names t) u → (env : Env) → eval T (two (quant m t) e g) env ≡ eval T (two (quant m t) e f) env
-  unfolding eval columns joined emit act
+  unfolding evalWithin columns joinedWithin emitWithin actWithin
   drop-quant m t e (itself f) h env = refl
   drop-quant m t e (listed ids g) h env = ap (λ (k : Row → List Row). flatMap k (eval T e env)) (fun-ext (λ l.
       let inside : Env = bind (columns T e) l env in
@@ -110,7 +110,7 @@ module _ (T : Tables) where
 
   pub drop-fold : (a : Aggregate) (n : ℕ) (t : Test) (e : Plan) {f g : Plan} (u : Under f g) → Shown (measured a ++ names t) u
       → (env : Env) → eval T (two (fold a n t) e g) env ≡ eval T (two (fold a n t) e f) env
-  unfolding eval columns joined emit act gather
+  unfolding evalWithin columns joinedWithin emitWithin actWithin gatherWithin
   drop-fold a n t e (itself f) h env = refl
   drop-fold a n t e (listed ids g) h env = ap (λ (k : Row → List Row). flatMap k (eval T e env)) (fun-ext (λ l.
       let inside : Env = bind (columns T e) l env in

@@ -8,7 +8,7 @@ use native.Mathlib.Nat.{le-trans, mul-le-mul-right}
 use lib.ListN.{length, length-map, length-append, length-reverse}
 use Rattle.algebra.specs.Lists.{flip, any, flatMap, insert, sorted, backwards, same, firsts}
 use Rattle.algebra.specs.Cells.{eq}
-use Rattle.algebra.specs.Plans.{Row, Env, Tables, holds, unit, scan, Unary, select, project, distinct, group, sort, Binary, cross, semi, quant, fold, each, pair, Plan, leaf, one, two, nested, columns, bind, matched, quantify, emit, cut, act, around, joined, eval}
+use Rattle.algebra.specs.Plans.{Row, Env, Tables, holds, unit, scan, Unary, select, project, distinct, group, sort, Binary, cross, semi, quant, fold, each, pair, Plan, leaf, one, two, nested, columns, bind, matched, quantify, emit, emitWithin, cut, act, actWithin, around, joinedWithin, eval, evalWithin}
 use Rattle.algebra.specs.Refusals.{perRow, bound}
 use Rattle.algebra.proofs.Lists.{filter-length}
 
@@ -38,7 +38,7 @@ keep-length true l = omega arith
 keep-length false l = omega arith
 
 emit-length : (b : Binary) (ds : List ℕ) (l : Row) (env : Env) (rs : List Row) (y : ℕ) → length rs ≤ y → length (emit b ds l env rs) ≤ perRow b y
-unfolding emit
+unfolding emitWithin
 emit-length cross ds l env rs y h = simp length-map h
 emit-length (semi m a c t) ds l env rs y h = keep-length (flip m (any (λ r. matched a c eq t (bind ds r env)) rs)) l
 emit-length (quant m t) ds l env rs y h = keep-length (quantify m (λ r. holds t (bind ds r env)) rs) l
@@ -48,7 +48,7 @@ emit-length each ds l env (r ∷ rs) y h = simp length-map (omega arith)
 emit-length (pair g n a c k t) ds l env rs y h = omega arith
 
 act-length : (u : Unary) (cs : List ℕ) (env : Env) (rs : List Row) → length (act u cs env rs) ≤ length rs
-unfolding act
+unfolding actWithin
 act-length (select t) cs env rs = filter-length (λ r. holds t (bind cs r env)) rs
 act-length (project ids) cs env rs = simp length-map (omega arith)
 act-length (distinct ids) cs env rs = omega (arith, firsts-length (map (cut ids cs env) rs), length-map rs (cut ids cs env))
@@ -64,7 +64,7 @@ act-length (sort d ids) cs env rs = simp (backwards-length, sorted-length) (omeg
 
 module _ (T : Tables) where
   pub row-bound : (p : Plan) (env : Env) → length (eval T p env) ≤ bound T p
-  unfolding eval bound joined
+  unfolding evalWithin bound joinedWithin
   row-bound (leaf unit) env = omega arith
   row-bound (leaf (scan t n)) env = omega arith
   row-bound (one u p) env = le-trans (act-length u (columns T p) env (eval T p env)) (row-bound p env)

@@ -7,7 +7,7 @@ use mathlib.Core.List.{List, [], _∷_, _++_, map}
 use lib.Dec.{eqb}
 use Rattle.algebra.specs.Lists.{flip, filter, any, flatMap, member, minus, firsts}
 use Rattle.algebra.specs.Cells.{Comparison, eq, Aggregate, count, over, blank, compares, aggregate}
-use Rattle.algebra.specs.Plans.{Row, Env, Tables, Form, always, columnsOf, numberOf, Test, test, formNames, names, truth, holds, Unary, select, project, distinct, group, sort, Binary, cross, semi, quant, fold, each, pair, Plan, leaf, one, two, nested, columns, bind, measure, gather, matched, quantify, emit, cut, arranged, act, around, joined, eval}
+use Rattle.algebra.specs.Plans.{Row, Env, Tables, Form, always, columnsOf, numberOf, Test, test, formNames, names, truth, holds, Unary, select, project, distinct, group, sort, Binary, cross, semi, quant, fold, each, pair, Plan, leaf, one, two, nested, columns, bind, measure, gather, gatherWithin, matched, quantify, emit, emitWithin, cut, arranged, act, actWithin, around, joinedWithin, eval, evalWithin}
 use Rattle.algebra.specs.Names.{measured, binaryNames, unaryFree, innerFree, free}
 
 -- the two environments give these columns the same values
@@ -87,11 +87,11 @@ matched-agree l r c t (more p (more q h)) = ap₂ _&&_ (ap₂ (compares c) p q) 
 
 gather-agree : (a : Aggregate) (p : Env → Bool) (ds : List ℕ) (f g : Env) (rs : List Row)
     → ((r : Row) → p (bind ds r f) ≡ p (bind ds r g)) → ((r : Row) → measure a (bind ds r f) ≡ measure a (bind ds r g)) → gather a p ds f rs ≡ gather a p ds g rs
-unfolding gather
+unfolding gatherWithin
 gather-agree a p ds f g rs h k = ap₂ (λ (m : Row → ℕ) (q : Row → Bool). aggregate a (map m (filter q rs))) (fun-ext k) (fun-ext h)
 
 pub emit-agree : (b : Binary) (ds : List ℕ) (l : Row) {f g : Env} (rs : List Row) → Agree f g (minus (binaryNames b) ds) → emit b ds l f rs ≡ emit b ds l g rs
-unfolding emit
+unfolding emitWithin
 emit-agree b ds l {f} {g} rs h = go b rs (λ r. bind-agree (binaryNames b) ds r h)
   where
     go : (b : Binary) (rs : List Row) → ((r : Row) → Agree (bind ds r f) (bind ds r g) (binaryNames b)) → emit b ds l f rs ≡ emit b ds l g rs
@@ -113,7 +113,7 @@ cut-agree : (ids cs : List ℕ) {f g : Env} → Agree f g (minus ids cs) → cut
 cut-agree ids cs h = fun-ext (λ r. map-agree (bind-agree ids cs r h))
 
 pub act-agree : (u : Unary) (cs : List ℕ) {f g : Env} (rs : List Row) → Agree f g (unaryFree u cs) → act u cs f rs ≡ act u cs g rs
-unfolding act unaryFree
+unfolding actWithin unaryFree
 act-agree (select t) cs rs h = ap (λ (p : Row → Bool). filter p rs) (fun-ext (λ r. holds-agree t (bind-agree (names t) cs r h)))
 act-agree (project ids) cs rs h = ap (λ (k : Row → Row). map k rs) (cut-agree ids cs h)
 act-agree (distinct ids) cs rs h = ap (λ (k : Row → Row). firsts (map k rs)) (cut-agree ids cs h)
@@ -130,7 +130,7 @@ around-agree false cs fs l h = h
 module _ (T : Tables) where
   -- environments that agree on what the plan names from outside give it the same rows
   pub eval-free : (p : Plan) {f g : Env} → Agree f g (free T p) → eval T p f ≡ eval T p g
-  unfolding eval free joined
+  unfolding evalWithin free joinedWithin
   eval-free (leaf x) h = refl
   eval-free (one u p) {f} {g} h =
       ap (act u (columns T p) f) (eval-free p (agree-left (free T p) _ h)) ∙ act-agree u (columns T p) (eval T p g) (agree-right (free T p) _ h)

@@ -9,7 +9,7 @@ use lib.Dec.{eqb}
 use borrow.Author.Tests.{eqb-true, eq-eqb, not-true}
 use Rattle.algebra.specs.Lists.{flip, filter, any, flatMap, member, unique, within, firsts}
 use Rattle.algebra.specs.Cells.{Comparison, eq, Aggregate, blank, compares, aggregate}
-use Rattle.algebra.specs.Plans.{Row, Env, Tables, Test, names, holds, Unary, select, project, distinct, group, sort, Binary, cross, semi, quant, fold, each, pair, Plan, leaf, one, two, nested, unaryColumns, binaryColumns, columns, bind, measure, gather, matched, emit, cut, arranged, act, around, joined, leafRows, eval}
+use Rattle.algebra.specs.Plans.{Row, Env, Tables, Test, names, holds, Unary, select, project, distinct, group, sort, Binary, cross, semi, quant, fold, each, pair, Plan, leaf, one, two, nested, unaryColumns, binaryColumns, columns, bind, measure, gather, gatherWithin, matched, emit, emitWithin, cut, arranged, act, actWithin, around, joinedWithin, leafRows, eval, evalWithin}
 use Rattle.algebra.specs.Names.{measured, unaryNew, binaryNew, introduced}
 use Rattle.algebra.specs.Refusals.{unaryInView, binaryInView, innerScope, inView, refusal}
 use Rattle.algebra.specs.Rules.{outside}
@@ -157,13 +157,13 @@ matched-reads a b c t cs ds h k n l env r = ap (λ (z : Bool). z && holds t (bin
 
 gather-reads : (g : Aggregate) (p : Env → Bool) (ds : List ℕ) (env : Env) (q : Row → Bool) → within (measured g) ds ≡ true → ((r : Row) → p (bind ds r env) ≡ q r)
     → (rs : List Row) → gather g p ds env rs ≡ readGather g ds q rs
-unfolding gather
+unfolding gatherWithin
 gather-reads g p ds env q h k rs =
     ap₂ (λ (m : Row → ℕ) (s : Row → Bool). aggregate g (map m (filter s rs))) (fun-ext (λ r. measure-agree g (local-agree (measured g) ds r env outside h))) (fun-ext k)
 
 emit-reads : (scope : List ℕ) (b : Binary) (cs ds : List ℕ) → binaryInView scope b cs ds ≡ true → ((x : ℕ) → In x cs → member x ds ≡ false)
     → (l : Row) (env : Env) (rs : List Row) → emit b ds l (bind cs l env) rs ≡ readEmit b cs ds l env rs
-unfolding emit
+unfolding emitWithin
 emit-reads scope cross cs ds h n l env rs = refl
 emit-reads scope (semi m a b t) cs ds h n l env rs =
     let (u, (v, _)) = every-true (member a cs ∷ member b ds ∷ within (names t) (cs ++ (ds ++ scope)) ∷ []) h in
@@ -199,7 +199,7 @@ past-key l (x ∷ xs) cs scope h n v q env =
 pub group-reads : (scope : List ℕ) (a : Aggregate) (n l r : ℕ) (c : Comparison) (t : Test) (cs : List ℕ) → unaryInView scope (group a n l r c t) cs ≡ true
     → member l cs ≡ false → member l scope ≡ false → (x : ℕ) (env : Env) (rs : List Row)
     → emit (pair a n l r c t) cs (x ∷ []) (bind (l ∷ []) (x ∷ []) env) rs ≡ readGroup a r c t cs env rs x ∷ []
-unfolding emit
+unfolding emitWithin
 group-reads scope a n l r c t cs h k m x env rs =
     let (u, (v, (w, _))) = every-true (member r cs ∷ within (measured a) cs ∷ within (names t) (cs ++ scope) ∷ []) h in
     ap (λ (z : ℕ). (x ∷ z ∷ []) ∷ [])
@@ -215,7 +215,7 @@ singles-map k f h (single {x = x} {rs = rs} s) = ap₂ _++_ (h x) (singles-map k
 
 act-reads : (scope : List ℕ) (u : Unary) (cs : List ℕ) → unaryInView scope u cs ≡ true → ((x : ℕ) → In x (unaryNew u) → (member x cs ≡ false) × (member x scope ≡ false))
     → (env : Env) (rs : List Row) → act u cs env rs ≡ readAct u cs env rs
-unfolding act
+unfolding actWithin
 act-reads scope (select t) cs h n env rs = refl
 act-reads scope (project ids) cs h n env rs = ap (λ (k : Row → Row). map k rs) (cut-reads ids cs env (and-eq-true-iff (unique ids) (within ids cs) .0 h .1))
 act-reads scope (distinct ids) cs h n env rs = ap (λ (k : Row → Row). firsts (map k rs)) (cut-reads ids cs env (and-eq-true-iff (unique ids) (within ids cs) .0 h .1))
@@ -257,7 +257,7 @@ module _ (T : Tables) where
   inner-apart scope false e js h g s x k = s x k
 
   reads : (scope : List ℕ) (p : Plan) → inView T scope p ≡ true → unique (introduced T p) ≡ true → Apart scope (introduced T p) → (env : Env) → eval T p env ≡ readEval T p env
-  unfolding eval joined readEval introduced
+  unfolding evalWithin joinedWithin readEval introduced
   reads scope (leaf x) h g s env = refl
   reads scope (one u p) h g s env =
       let (k, w) = in-view-one T scope u p h in

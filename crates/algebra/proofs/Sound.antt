@@ -10,8 +10,8 @@ use lib.Dec.{eqb, ltb}
 use lib.ListN.{length, length-map}
 use borrow.Author.Tests.{eqb-true, not-true, eq-eqb}
 use Rattle.algebra.specs.Lists.{flip, filter, any, all, flatMap, isEmpty, every, member, minus, same, firsts}
-use Rattle.algebra.specs.Cells.{Comparison, eq, ne, lt, le, gt, ge, Aggregate, count, origin, compares, aggregate}
-use Rattle.algebra.specs.Plans.{Row, Env, Tables, always, columnsOf, numberOf, Test, test, plain, isPlain, names, truth, holds, turned, Unary, select, project, distinct, group, sort, Binary, cross, semi, quant, fold, each, pair, Plan, leaf, one, two, columns, bind, measure, gather, matched, quantify, emit, cut, act, joined, eval}
+use Rattle.algebra.specs.Cells.{Comparison, eq, ne, lt, le, gt, ge, Aggregate, count, origin, compares, aggregate, aggregateWithin}
+use Rattle.algebra.specs.Plans.{Row, Env, Tables, always, columnsOf, numberOf, Test, test, plain, isPlain, names, truth, holds, turned, Unary, select, project, distinct, group, sort, Binary, cross, semi, quant, fold, each, pair, Plan, leaf, one, two, columns, bind, measure, gatherWithin, matched, quantify, emit, emitWithin, cut, actWithin, joinedWithin, eval, evalWithin}
 use Rattle.algebra.specs.Names.{measured, unaryFree, free, closed}
 use Rattle.algebra.specs.Rules.{Top, selected, other, top, unprojected, Only, only, another, onlyOf, Link, unlinked, link, linkBy, linkOf, isEqual, when, avoids, local, outside, sequenced, toSemi, u1, toPair, u5, counted, bare, removed, u3Conditions, u3, u6Conditions, u6, u7, u8, unnest}
 use Rattle.algebra.specs.Steps.{weight}
@@ -187,7 +187,7 @@ module _ (T : Tables) where
 
   -- ---- U1, U2
   u1-good : (m : Bool) (t : Test) (e : Plan) {f g : Plan} (u : Under f g) → (Fine (two (quant m t) e f) → Shown T (names t) u) → (v : Top g) → Good (two (quant m t) e f) (u1 T m t e v)
-  unfolding eval columns joined emit act weight
+  unfolding evalWithin columns joinedWithin emitWithin actWithin weight
   u1-good m t e u shows (other g) = tt
   u1-good m t e {f} u shows (selected s g) = go (linkOf (columns T e) (columns T g) s) (link-means (columns T e) (columns T g) s)
     where
@@ -217,7 +217,7 @@ module _ (T : Tables) where
   -- ---- U5
   u5-good : (a : Aggregate) (n : ℕ) (t : Test) (e : Plan) {f g : Plan} (u : Under f g) → (Fine (two (fold a n t) e f) → Shown T (measured a ++ names t) u) → (v : Top g)
       → Good (two (fold a n t) e f) (u5 T a n t e v)
-  unfolding eval columns joined emit act weight gather
+  unfolding evalWithin columns joinedWithin emitWithin actWithin weight gatherWithin
   u5-good a n t e u shows (other g) = tt
   u5-good a n t e {f} u shows (selected s g) = go (linkOf (columns T e) (columns T g) s) (link-means (columns T e) (columns T g) s)
     where
@@ -240,7 +240,7 @@ module _ (T : Tables) where
 
   -- ---- U8
   u8-good : (e f : Plan) → Good (two each e f) (u8 T e f)
-  unfolding eval columns joined emit weight
+  unfolding evalWithin columns joinedWithin emitWithin weight
   u8-good e f = good-when (closed T f && not (isEmpty (eval T f outside))) _ _ (λ h. let (h₁, h₂) = and-eq-true-iff (closed T f) (not (isEmpty (eval T f outside))) .0 h in record {
     agrees = λ _ _. record {
       sameColumns = refl;
@@ -257,7 +257,7 @@ module _ (T : Tables) where
 
   -- ---- U7
   u7-good : (m : Bool) (l r : ℕ) (t : Test) (e f : Plan) → isPlain t ≡ false → Good (two (semi m l r t) e f) (u7 T m l r t e f)
-  unfolding eval columns joined emit act weight
+  unfolding evalWithin columns joinedWithin emitWithin actWithin weight
   u7-good m l r t e f n = good-when (local T t f) _ _ (λ h. record {
     agrees = λ _ _. record {
       sameColumns = refl;
@@ -284,7 +284,7 @@ module _ (T : Tables) where
 
   -- ---- U6
   u6-good : (a : Aggregate) (n l r : ℕ) (c : Comparison) (t : Test) {e : Plan} (o : Only e) (f : Plan) → Good (two (pair a n l r c t) e f) (u6 T (sequenced T) a n l r c t o f)
-  unfolding eval columns joined act weight
+  unfolding evalWithin columns joinedWithin actWithin weight
   u6-good a n l r c t (another e) f = tt
   u6-good a n l r c t (only k p) f =
       let e : Plan = one (distinct (k ∷ [])) p in
@@ -309,13 +309,13 @@ module _ (T : Tables) where
     splitWeight : weight f ≡ weight h
 
   split : {f : Plan} (v : Top f) → Split f (bare v) (removed v)
-  unfolding eval columns act free unaryFree weight truth
+  unfolding evalWithin columns actWithin free unaryFree weight truth
   split (selected s g) = record { splitColumns = refl; splitRows = λ env. refl; splitFree = refl; splitWeight = refl }
   split (other f) = record { splitColumns = refl; splitRows = λ env. sym (filter-true (eval T f env)); splitFree = sym (append-nil (free T f)); splitWeight = refl }
 
   u3-rows : (m : Bool) (c l r : ℕ) (e f h : Plan) (t : Test) → Split f h t → minus (names t) (columns T h) ≡ [] → UnaryFine (group count c l r eq t) h → columns T e ≡ l ∷ []
       → (env : Env) → eval T e env ≡ eval T (one (distinct (r ∷ [])) h) env → eval T (counted m c l r t h) env ≡ eval T (two (semi m l r plain) e f) env
-  unfolding eval columns joined emit act gather aggregate truth
+  unfolding evalWithin columns joinedWithin emitWithin actWithin gatherWithin aggregateWithin truth
   u3-rows m c l r e f h t s z w k env q =
       let inside : Row → Row → Env = λ v q. bind (columns T h) q (bind (l ∷ []) v env) in
       let n : Row → ℕ = λ v. length (map (λ q. measure count (inside v q)) (filter (λ q. matched l r eq t (inside v q)) (eval T h env))) in

@@ -10,7 +10,7 @@ use native.Mathlib.Omega.{arith}
 use lib.Dec.{eqb, ltb}
 use lib.ListN.{length}
 use borrow.Author.Tests.{ltb-true, ltb-false, le-ltb, eqb-true, eqb-false}
-use Rattle.algebra.specs.Plans.{Tables, isPlain, Unary, Binary, cross, semi, quant, fold, each, pair, Plan, leaf, one, two, unaryColumns, binaryColumns, columns, act, joined, eval}
+use Rattle.algebra.specs.Plans.{Tables, isPlain, Unary, Binary, cross, semi, quant, fold, each, pair, Plan, leaf, one, two, unaryColumns, binaryColumns, columns, act, joined, evalWithin}
 use Rattle.algebra.specs.Places.{size, here, modify, look}
 use Rattle.algebra.specs.Refusals.{refusal, passes}
 use Rattle.algebra.specs.Rules.{top, onlyOf, when, sequenced, u3, u7, ruleOf, unnest, rule, numberAt, fresh}
@@ -30,14 +30,14 @@ module _ (T : Tables) where
 
   -- ---- congruence
   same-one : (u : Unary) {p q : Plan} → Same T p q → Same T (one u p) (one u q)
-  unfolding eval columns
+  unfolding evalWithin columns
   same-one u s = record {
     sameColumns = ap (unaryColumns u) (s .sameColumns);
     sameRowsOf = λ env i. act u (s .sameColumns i) env (s .sameRowsOf env i);
   }
 
   same-two : (b : Binary) {p q p′ q′ : Plan} → Same T p q → Same T p′ q′ → Same T (two b p p′) (two b q q′)
-  unfolding eval columns
+  unfolding evalWithin columns
   same-two b s t = record {
     sameColumns = ap₂ (binaryColumns b) (s .sameColumns) (t .sameColumns);
     sameRowsOf = λ env i. joined b (s .sameColumns i) (t .sameColumns i) (s .sameRowsOf env i) (λ f. t .sameRowsOf f i) env;

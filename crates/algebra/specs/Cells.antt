@@ -81,25 +81,37 @@ turn le = ge
 turn gt = lt
 turn ge = le
 
--- n numbers whose cells add up to s: the cell of their sum, off scale where it leaves the range
-abbrev pub sumOf : ℕ → ℕ → ℕ
-sumOf n s = cond (leb (n * origin) (s + reach) && leb s (n * origin + reach)) (s + origin - n * origin) offScale
-
--- of cells that are numbers: their sum; the least and the greatest, blank for none
-abbrev pub summary : Summary → List ℕ → ℕ
-summary sum xs = sumOf (length xs) (total xs)
-summary least [] = blank
-summary least (x ∷ xs) = foldr min x xs
-summary greatest xs = foldr max blank xs
-
 -- a sum needs every cell; the least and the greatest skip blanks
 abbrev pub needsAll : Summary → Bool
 needsAll sum = true
 needsAll least = false
 needsAll greatest = false
 
--- the aggregate of the measured cells of the rows that pass: off scale where one of them is; else blank where one is blank and every cell is needed,
--- whatever the numbers come to; else the summary of the numbers
-unfoldable pub aggregate : Aggregate → List ℕ → ℕ
-aggregate count xs = origin + length xs
-aggregate (over k c) xs = cond (any (eqb offScale) xs) offScale (cond (needsAll k && any isBlank xs) blank (summary k (filter (λ x. not (isBlank x)) xs)))
+-- ---- sums and aggregates, where numbers reach from -most to most
+module _ (most : ℕ) where
+  -- n numbers whose cells add up to s: the cell of their sum, off scale where it leaves the range
+  abbrev pub sumWithin : ℕ → ℕ → ℕ
+  sumWithin n s = cond (leb (n * origin) (s + most) && leb s (n * origin + most)) (s + origin - n * origin) offScale
+
+  -- of cells that are numbers: their sum; the least and the greatest, blank for none
+  abbrev pub summaryWithin : Summary → List ℕ → ℕ
+  summaryWithin sum xs = sumWithin (length xs) (total xs)
+  summaryWithin least [] = blank
+  summaryWithin least (x ∷ xs) = foldr min x xs
+  summaryWithin greatest xs = foldr max blank xs
+
+  -- the aggregate of the measured cells of the rows that pass: off scale where one of them is; else blank where one is blank and every cell
+  -- is needed, whatever the numbers come to; else the summary of the numbers
+  unfoldable pub aggregateWithin : Aggregate → List ℕ → ℕ
+  aggregateWithin count xs = origin + length xs
+  aggregateWithin (over k c) xs = cond (any (eqb offScale) xs) offScale (cond (needsAll k && any isBlank xs) blank (summaryWithin k (filter (λ x. not (isBlank x)) xs)))
+
+-- .. in the cell range
+abbrev pub sumOf : ℕ → ℕ → ℕ
+sumOf = sumWithin reach
+
+abbrev pub summary : Summary → List ℕ → ℕ
+summary = summaryWithin reach
+
+abbrev pub aggregate : Aggregate → List ℕ → ℕ
+aggregate = aggregateWithin reach

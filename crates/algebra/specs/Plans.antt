@@ -7,7 +7,7 @@ use mathlib.Core.List.{List, [], _∷_, _++_, map}
 use lib.Dec.{eqb, ltb}
 use lib.ListN.{length, replicate}
 use Rattle.algebra.specs.Lists.{flip, filter, any, all, flatMap, sorted, backwards, firsts, upward}
-use Rattle.algebra.specs.Cells.{Comparison, eq, Aggregate, count, over, blank, compares, aggregate}
+use Rattle.algebra.specs.Cells.{Comparison, eq, Aggregate, count, over, blank, reach, compares, aggregateWithin}
 
 abbrev pub Row : Type 0
 Row = List ℕ
@@ -132,10 +132,6 @@ abbrev pub measure : Aggregate → Env → ℕ
 measure count env = blank
 measure (over k c) env = env c
 
--- the aggregate over the rows of these columns that pass
-unfoldable pub gather : Aggregate → (Env → Bool) → List ℕ → Env → List Row → ℕ
-gather g p ds env rs = aggregate g (map (λ r. measure g (bind ds r env)) (filter (λ r. p (bind ds r env)) rs))
-
 -- keys and test together
 abbrev pub matched : ℕ → ℕ → Comparison → Test → Env → Bool
 matched l r c t env = compares c (env l) (env r) && holds t env
@@ -144,16 +140,6 @@ matched l r c t env = compares c (env l) (env r) && holds t env
 abbrev pub quantify : Bool → (Row → Bool) → List Row → Bool
 quantify false p rs = any p rs
 quantify true p rs = all p rs
-
--- what a left row l gives: ds the right columns, env the environment inside l, rs the right rows
-unfoldable pub emit : Binary → List ℕ → Row → Env → List Row → List Row
-emit cross ds l env rs = map (λ r. l ++ r) rs
-emit (semi m a b t) ds l env rs = cond (flip m (any (λ r. matched a b eq t (bind ds r env)) rs)) (l ∷ []) []
-emit (quant m t) ds l env rs = cond (quantify m (λ r. holds t (bind ds r env)) rs) (l ∷ []) []
-emit (fold g n t) ds l env rs = (l ++ (gather g (holds t) ds env rs ∷ [])) ∷ []
-emit each ds l env [] = (l ++ replicate (length ds) blank) ∷ []
-emit each ds l env (r ∷ rs) = map (λ q. l ++ q) (r ∷ rs)
-emit (pair g n a b c t) ds l env rs = (l ++ (gather g (matched a b c t) ds env rs ∷ [])) ∷ []
 
 -- the cells of a row under these ids
 abbrev pub cut : List ℕ → List ℕ → Env → Row → Row
@@ -169,27 +155,59 @@ precedes (x ∷ xs) (y ∷ ys) = cond (eqb x y) (precedes xs ys) (ltb x y)
 abbrev pub arranged : Bool → (Row → List ℕ) → List Row → List Row
 arranged d key rs = backwards d (sorted (λ q r. precedes (key q) (key r)) rs)
 
--- Group pairs each first occurrence of the right key, as a row under the left key's id, with the child's rows.
-unfoldable pub act : Unary → List ℕ → Env → List Row → List Row
-act (select t) cs env rs = filter (λ r. holds t (bind cs r env)) rs
-act (project ids) cs env rs = map (cut ids cs env) rs
-act (distinct ids) cs env rs = firsts (map (cut ids cs env) rs)
-act (group g n l r c t) cs env rs = flatMap (λ v. emit (pair g n l r c t) cs v (bind (l ∷ []) v env) rs) (firsts (map (cut (r ∷ []) cs env) rs))
-act (sort d ids) cs env rs = arranged d (cut ids cs env) rs
-
 -- the environment of the second child
 abbrev pub around : Bool → Env → Env → Env
 around true env inside = inside
 around false env inside = env
 
-unfoldable pub joined : Binary → List ℕ → List ℕ → List Row → (Env → List Row) → Env → List Row
-joined b cs ds ls right env = flatMap (λ l. emit b ds l (bind cs l env) (right (around (nested b) env (bind cs l env)))) ls
-
 abbrev pub leafRows : Tables → Leaf → List Row
 leafRows T unit = [] ∷ []
 leafRows T (scan t n) = T .rows t
 
-unfoldable pub eval : Tables → Plan → Env → List Row
-eval T (leaf x) env = leafRows T x
-eval T (one u p) env = act u (columns T p) env (eval T p env)
-eval T (two b e f) env = joined b (columns T e) (columns T f) (eval T e env) (eval T f) env
+-- ---- what a plan gives, where numbers reach from -most to most
+module _ (most : ℕ) where
+  -- the aggregate over the rows of these columns that pass
+  unfoldable pub gatherWithin : Aggregate → (Env → Bool) → List ℕ → Env → List Row → ℕ
+  gatherWithin g p ds env rs = aggregateWithin most g (map (λ r. measure g (bind ds r env)) (filter (λ r. p (bind ds r env)) rs))
+
+  -- what a left row l gives: ds the right columns, env the environment inside l, rs the right rows
+  unfoldable pub emitWithin : Binary → List ℕ → Row → Env → List Row → List Row
+  emitWithin cross ds l env rs = map (λ r. l ++ r) rs
+  emitWithin (semi m a b t) ds l env rs = cond (flip m (any (λ r. matched a b eq t (bind ds r env)) rs)) (l ∷ []) []
+  emitWithin (quant m t) ds l env rs = cond (quantify m (λ r. holds t (bind ds r env)) rs) (l ∷ []) []
+  emitWithin (fold g n t) ds l env rs = (l ++ (gatherWithin g (holds t) ds env rs ∷ [])) ∷ []
+  emitWithin each ds l env [] = (l ++ replicate (length ds) blank) ∷ []
+  emitWithin each ds l env (r ∷ rs) = map (λ q. l ++ q) (r ∷ rs)
+  emitWithin (pair g n a b c t) ds l env rs = (l ++ (gatherWithin g (matched a b c t) ds env rs ∷ [])) ∷ []
+
+  -- Group pairs each first occurrence of the right key, as a row under the left key's id, with the child's rows.
+  unfoldable pub actWithin : Unary → List ℕ → Env → List Row → List Row
+  actWithin (select t) cs env rs = filter (λ r. holds t (bind cs r env)) rs
+  actWithin (project ids) cs env rs = map (cut ids cs env) rs
+  actWithin (distinct ids) cs env rs = firsts (map (cut ids cs env) rs)
+  actWithin (group g n l r c t) cs env rs = flatMap (λ v. emitWithin (pair g n l r c t) cs v (bind (l ∷ []) v env) rs) (firsts (map (cut (r ∷ []) cs env) rs))
+  actWithin (sort d ids) cs env rs = arranged d (cut ids cs env) rs
+
+  unfoldable pub joinedWithin : Binary → List ℕ → List ℕ → List Row → (Env → List Row) → Env → List Row
+  joinedWithin b cs ds ls right env = flatMap (λ l. emitWithin b ds l (bind cs l env) (right (around (nested b) env (bind cs l env)))) ls
+
+  unfoldable pub evalWithin : Tables → Plan → Env → List Row
+  evalWithin T (leaf x) env = leafRows T x
+  evalWithin T (one u p) env = actWithin u (columns T p) env (evalWithin T p env)
+  evalWithin T (two b e f) env = joinedWithin b (columns T e) (columns T f) (evalWithin T e env) (evalWithin T f) env
+
+-- .. in the cell range
+abbrev pub gather : Aggregate → (Env → Bool) → List ℕ → Env → List Row → ℕ
+gather = gatherWithin reach
+
+abbrev pub emit : Binary → List ℕ → Row → Env → List Row → List Row
+emit = emitWithin reach
+
+abbrev pub act : Unary → List ℕ → Env → List Row → List Row
+act = actWithin reach
+
+abbrev pub joined : Binary → List ℕ → List ℕ → List Row → (Env → List Row) → Env → List Row
+joined = joinedWithin reach
+
+abbrev pub eval : Tables → Plan → Env → List Row
+eval = evalWithin reach

@@ -1,84 +1,90 @@
--- A code and its word, and how a word is printed. Assumes nothing.
-use Prim.Native.Nat.{ℕ, suc, _+_, _-_, _<_, _≤_}
+-- A code by its sign, and how it is printed. Assumes nothing.
+use Prim.Native.Nat.{ℕ, suc, _+_, _<_}
 use mathlib.Core.Path.{_≡_, refl, sym, ap, subst, _∙_}
+use mathlib.Core.Bool.{true, false, false≢true}
 use native.Mathlib.Omega.{arith}
-use borrow.Author.Tests.{lt-ltb, le-ltb, ne-eqb}
+use borrow.Author.Tests.{ltb-true, le-ltb, eq-eqb, ne-eqb}
 use lib.Dec.{T}
-use lib.IntN.{ℤ, pos, negsuc, _+ℤ_, natAbs}
-use lib.Signed.{nonNeg}
-use mir.Syntax.{w32, w64}
+use lib.IntN.{ℤ, pos, negsuc, _-ℤ_, natAbs}
+use lib.Signed.{nonNeg, ltZ}
+use mir.Syntax.{w64}
 use mir.Val.{Fits, SFits, toZ, ofZ}
-use mir.Facts.{toZ-ofZ, sfits-widen}
-use Rattle.reporting.specs.Report.{codeOf}
+use mir.Facts.{toZ-ofZ}
 use Rattle.listing.specs.Listing.{shownOf}
 use Rattle.listing.specs.declared.cell.Shown.the-variants.{Blank, OffScale, BelowZero, Number}
 
--- ---- the word of a code
+-- how far a code below zero lies below -1
+depth : (n : ℕ) → negsuc 0 -ℤ negsuc n ≡ pos n
+depth n = rw (le-ltb (suc n) 1 (omega arith)) (ap pos (omega arith))
 
-abbrev wordOf : ℤ → ℕ
-wordOf (pos n) = n + 2147483648
-wordOf (negsuc n) = 2147483648 - suc n
+below-zero : (z : ℤ) → ltZ z (pos 0) ≡ true → (n : ℕ) × (z ≡ negsuc n)
+below-zero (pos n) h = absurd (omega (arith, ltb-true n 0 h))
+below-zero (negsuc n) h = (n, refl)
 
-word-fits : (z : ℤ) → SFits w32 z → wordOf z < 4294967296
-word-fits (pos n) f = omega (arith, f .sfits)
-word-fits (negsuc n) f = omega (arith, f .sfits)
+not-below : (z : ℤ) → ltZ z (pos 0) ≡ false → (n : ℕ) × (z ≡ pos n)
+not-below (pos n) h = (n, refl)
+not-below (negsuc n) h = absurd (false≢true (sym h))
 
--- what `code as i64 + 2147483648` computes
-raised : (z : ℤ) → SFits w32 z → z +ℤ pos 2147483648 ≡ pos (wordOf z)
-raised (pos n) f = refl
-raised (negsuc n) f = rw (le-ltb 2147483648 (suc n) (omega (arith, f .sfits))) refl
+-- the code of an argument, as it is read
+module _ (z : ℤ) (f : SFits w64 z) where
+  read : toZ w64 (ofZ w64 z) ≡ z
+  read = toZ-ofZ f
 
-code-word : (z : ℤ) → SFits w32 z → codeOf (wordOf z) ≡ z
-unfolding codeOf
-code-word (pos n) f = rw (le-ltb (n + 2147483648) 2147483648 (omega arith)) (ap pos (omega arith))
-code-word (negsuc n) f =
-    let h : n < 2147483648 = omega (arith, f .sfits) in
-    rw (lt-ltb (2147483648 - suc n) 2147483648 (omega arith)) (ap negsuc (omega arith))
+  -- ---- below zero
+  module _ (h : ltZ (toZ w64 (ofZ w64 z)) (pos 0) ≡ true) where
+    negative : (n : ℕ) × (z ≡ negsuc n)
+    negative = below-zero z (ap (λ (x : ℤ). ltZ x (pos 0)) (sym read) ∙ h)
 
-pub widened-fits : (z : ℤ) → SFits w32 z → SFits w64 (toZ w32 (ofZ w32 z))
-widened-fits z f = subst (λ (x : ℤ). SFits w64 x) (sym (toZ-ofZ f)) (sfits-widen tt f)
+    lies : negsuc 0 -ℤ toZ w64 (ofZ w64 z) ≡ pos (negative .0)
+    lies = ap (λ (x : ℤ). negsuc 0 -ℤ x) (read ∙ negative .1) ∙ depth (negative .0)
 
-widened : (z : ℤ) → SFits w32 z → toZ w64 (ofZ w64 (toZ w32 (ofZ w32 z))) ≡ z
-widened z f = toZ-ofZ (widened-fits z f) ∙ toZ-ofZ f
+    small : negative .0 < 9223372036854775808
+    small = subst (λ (x : ℤ). SFits w64 x) (negative .1) f .sfits
 
-sum : (z : ℤ) → SFits w32 z → toZ w64 (ofZ w64 (toZ w32 (ofZ w32 z))) +ℤ pos 2147483648 ≡ pos (wordOf z)
-sum z f = ap (λ (x : ℤ). x +ℤ pos 2147483648) (widened z f) ∙ raised z f
+    pub below-fits : SFits w64 (negsuc 0 -ℤ toZ w64 (ofZ w64 z))
+    below-fits = subst (λ (x : ℤ). SFits w64 x) (sym lies) (record { sfits = small })
 
-word-fits-64 : (z : ℤ) → SFits w32 z → SFits w64 (pos (wordOf z))
-word-fits-64 z f = record { sfits = omega (arith, word-fits z f) }
+    stored : toZ w64 (ofZ w64 (negsuc 0 -ℤ toZ w64 (ofZ w64 z))) ≡ pos (negative .0)
+    stored = toZ-ofZ below-fits ∙ lies
 
-pub sum-fits : (z : ℤ) → SFits w32 z → SFits w64 (toZ w64 (ofZ w64 (toZ w32 (ofZ w32 z))) +ℤ pos 2147483648)
-sum-fits z f = subst (λ (x : ℤ). SFits w64 x) (sym (sum z f)) (word-fits-64 z f)
+    pub below-cast : T (nonNeg (toZ w64 (ofZ w64 (negsuc 0 -ℤ toZ w64 (ofZ w64 z))))) × Fits w64 (natAbs (toZ w64 (ofZ w64 (negsuc 0 -ℤ toZ w64 (ofZ w64 z)))))
+    below-cast = subst (λ (x : ℤ). T (nonNeg x) × Fits w64 (natAbs x)) (sym stored) (tt, omega (arith, small))
 
-stored : (z : ℤ) → SFits w32 z → toZ w64 (ofZ w64 (toZ w64 (ofZ w64 (toZ w32 (ofZ w32 z))) +ℤ pos 2147483648)) ≡ pos (wordOf z)
-stored z f = ap (λ (x : ℤ). toZ w64 (ofZ w64 x)) (sum z f) ∙ toZ-ofZ (word-fits-64 z f)
+    size : natAbs (toZ w64 (ofZ w64 (negsuc 0 -ℤ toZ w64 (ofZ w64 z)))) ≡ negative .0
+    size = ap natAbs stored
 
-pub cast-fits : (z : ℤ) → SFits w32 z → T (nonNeg (toZ w64 (ofZ w64 (toZ w64 (ofZ w64 (toZ w32 (ofZ w32 z))) +ℤ pos 2147483648)))) × Fits w32 (natAbs (toZ w64 (ofZ w64 (toZ w64 (ofZ w64 (toZ w32 (ofZ w32 z))) +ℤ pos 2147483648))))
-cast-fits z f = subst (λ (x : ℤ). T (nonNeg x) × Fits w32 (natAbs x)) (sym (stored z f)) (tt, omega (arith, word-fits z f))
+    pub size-fits : Fits w64 (natAbs (toZ w64 (ofZ w64 (negsuc 0 -ℤ toZ w64 (ofZ w64 z)))) + 1)
+    size-fits = omega (arith, size, small)
 
-pub cast-word : (z : ℤ) → SFits w32 z → codeOf (natAbs (toZ w64 (ofZ w64 (toZ w64 (ofZ w64 (toZ w32 (ofZ w32 z))) +ℤ pos 2147483648)))) ≡ z
-cast-word z f = ap (λ (x : ℤ). codeOf (natAbs x)) (stored z f) ∙ code-word z f
+    pub shown-blank : natAbs (toZ w64 (ofZ w64 (negsuc 0 -ℤ toZ w64 (ofZ w64 z)))) ≡ 9223372036854775807 → Blank ≡ shownOf z
+    unfolding shownOf
+    shown-blank e = sym (ap shownOf (negative .1) ∙ rw (eq-eqb (negative .0) 9223372036854775807 (sym size ∙ e)))
 
--- ---- how a code is printed, by its word
+    pub shown-below : (natAbs (toZ w64 (ofZ w64 (negsuc 0 -ℤ toZ w64 (ofZ w64 z)))) ≡ 9223372036854775807 → ⊥)
+        → BelowZero (natAbs (toZ w64 (ofZ w64 (negsuc 0 -ℤ toZ w64 (ofZ w64 z)))) + 1) ≡ shownOf z
+    unfolding shownOf
+    shown-below d =
+        ap (λ (n : ℕ). BelowZero (n + 1)) size
+        ∙ sym (ap shownOf (negative .1) ∙ rw (ne-eqb (negative .0) 9223372036854775807 (λ e. d (size ∙ e))) (ap BelowZero (omega arith)))
 
-pub shown-blank : (z : ℤ) (w : ℕ) → codeOf w ≡ z → w ≡ 0 → Blank ≡ shownOf z
-unfolding codeOf shownOf
-shown-blank z w e h = ap shownOf (ap codeOf (sym h) ∙ e)
+  -- ---- zero and above
+  module _ (h : ltZ (toZ w64 (ofZ w64 z)) (pos 0) ≡ false) where
+    positive : (n : ℕ) × (z ≡ pos n)
+    positive = not-below z (ap (λ (x : ℤ). ltZ x (pos 0)) (sym read) ∙ h)
 
-pub shown-off-scale : (z : ℤ) (w : ℕ) → codeOf w ≡ z → w ≡ 4294967295 → OffScale ≡ shownOf z
-unfolding codeOf shownOf
-shown-off-scale z w e h = ap shownOf (ap codeOf (sym h) ∙ e)
+    pub number-cast : T (nonNeg (toZ w64 (ofZ w64 z))) × Fits w64 (natAbs (toZ w64 (ofZ w64 z)))
+    number-cast =
+        let small : positive .0 < 9223372036854775808 = subst (λ (x : ℤ). SFits w64 x) (positive .1) f .sfits in
+        subst (λ (x : ℤ). T (nonNeg x) × Fits w64 (natAbs x)) (sym (read ∙ positive .1)) (tt, omega (arith, small))
 
-below : (w : ℕ) → 0 < w → w < 2147483648 → BelowZero (2147483648 - w) ≡ shownOf (codeOf w)
-unfolding codeOf shownOf
-below w p h = rw (lt-ltb w 2147483648 h, ne-eqb (2147483648 - suc w) 2147483647 (λ e. omega (arith, e))) (ap BelowZero (omega arith))
+    is-number : natAbs (toZ w64 (ofZ w64 z)) ≡ positive .0
+    is-number = ap natAbs (read ∙ positive .1)
 
-pub shown-below : (z : ℤ) (w : ℕ) → codeOf w ≡ z → (w ≡ 0 → ⊥) → w < 2147483648 → BelowZero (2147483648 - w) ≡ shownOf z
-shown-below z w e n h = below w (omega (arith, n)) h ∙ ap shownOf e
+    pub shown-off-scale : natAbs (toZ w64 (ofZ w64 z)) ≡ 9223372036854775807 → OffScale ≡ shownOf z
+    unfolding shownOf
+    shown-off-scale e = sym (ap shownOf (positive .1) ∙ rw (eq-eqb (positive .0) 9223372036854775807 (sym is-number ∙ e)))
 
-number : (w : ℕ) → 2147483648 ≤ w → (w ≡ 4294967295 → ⊥) → Number (w - 2147483648) ≡ shownOf (codeOf w)
-unfolding codeOf shownOf
-number w h n = rw (le-ltb w 2147483648 h, ne-eqb (w - 2147483648) 2147483647 (λ e. n (omega (arith, e)))) refl
-
-pub shown-number : (z : ℤ) (w : ℕ) → codeOf w ≡ z → (w ≡ 4294967295 → ⊥) → 2147483648 ≤ w → Number (w - 2147483648) ≡ shownOf z
-shown-number z w e n h = number w h n ∙ ap shownOf e
+    pub shown-number : (natAbs (toZ w64 (ofZ w64 z)) ≡ 9223372036854775807 → ⊥) → Number (natAbs (toZ w64 (ofZ w64 z))) ≡ shownOf z
+    unfolding shownOf
+    shown-number d =
+        ap Number is-number ∙ sym (ap shownOf (positive .1) ∙ rw (ne-eqb (positive .0) 9223372036854775807 (λ e. d (is-number ∙ e))))

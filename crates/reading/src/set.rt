@@ -35,17 +35,17 @@ const SECOND_MARK: [u8; 5] = [84, 66, 76, 2, 0];
 // ---- Cells
 
 // The number of four bytes, low byte first.
-fn four_bytes(b0: u8, b1: u8, b2: u8, b3: u8) -> u64
-    ensures { λ r. ⌜ (r ≡ b0 + 256 * (b1 + 256 * (b2 + 256 * b3))) × (r ≤ 4294967295) ⌝ }
+fn four_bytes(b0: u8, b1: u8, b2: u8, b3: u8) -> u32
+    ensures { λ r. ⌜ r ≡ b0 + 256 * (b1 + 256 * (b2 + 256 * b3)) ⌝ }
 {
-    b0 as u64 + 256 * (b1 as u64 + 256 * (b2 as u64 + 256 * (b3 as u64)))
+    b0 as u32 + 256 * (b1 as u32 + 256 * (b2 as u32 + 256 * (b3 as u32)))
 }
 
 // The word of a version 1 cell's four bytes: its number plus 2^63, 0 for blank, 2^64 - 1 for off scale.
 pub fn word_of_four(b0: u8, b1: u8, b2: u8, b3: u8) -> u64
     ensures { λ r. ⌜ r ≡ wordOf First (unsignedAt 4 (b0 ∷ b1 ∷ b2 ∷ b3 ∷ []) 0) ⌝ }
 {
-    let x = four_bytes(b0, b1, b2, b3);
+    let x = four_bytes(b0, b1, b2, b3) as u64;
     if x == 2147483648 {
         return 0;
     }
@@ -59,16 +59,19 @@ pub fn word_of_four(b0: u8, b1: u8, b2: u8, b3: u8) -> u64
     }
 }
 
-// The word of a version 2 cell's eight bytes: its signed code plus 2^63.
+// The word of a version 2 cell's eight bytes: its signed code plus 2^63. Half the range is added to the upper four bytes, without a carry;
+// written so, the compiler reads all eight bytes at once.
 pub fn word(b0: u8, b1: u8, b2: u8, b3: u8, b4: u8, b5: u8, b6: u8, b7: u8) -> u64
     ensures { λ r. ⌜ r ≡ wordOf Second (unsignedAt 8 (b0 ∷ b1 ∷ b2 ∷ b3 ∷ b4 ∷ b5 ∷ b6 ∷ b7 ∷ []) 0) ⌝ }
 {
-    let x = four_bytes(b0, b1, b2, b3) + 4294967296 * four_bytes(b4, b5, b6, b7);
-    if x < 9223372036854775808 {
-        x + 9223372036854775808
+    let low = four_bytes(b0, b1, b2, b3);
+    let high = four_bytes(b4, b5, b6, b7);
+    let upper = if high < 2147483648 {
+        high + 2147483648
     } else {
-        x - 9223372036854775808
-    }
+        high - 2147483648
+    };
+    low as u64 + 4294967296 * (upper as u64)
 }
 
 // The word of cell i of a version 1 table's cells; past the last cell it is blank, 0.

@@ -4,7 +4,7 @@ use mathlib.Core.List.{List, map}
 use Prim.Native.Nat.{ℕ}
 use lib.ListN.{length}
 use Rattle.algebra.specs.Lists.{filter}
-use Rattle.algebra.specs.Plans.{Row, Env, bind, holds, cut, act}
+use Rattle.algebra.specs.Plans.{Row, Env, bind, holds, cut, actWithin}
 use Rattle.reading.specs.declared.plan.Node.{Node}
 use Rattle.reading.specs.Tree.{operatorBy, nodeTest, nodeList}
 use Rattle.reporting.specs.Rows.{Gives, acted, actedColumns}
@@ -15,9 +15,9 @@ module _ (node : Node) (cs : List ℕ) (env : Env) (rs : List Row) (most r : ℕ
   Acts kind = Gives (acted (operatorBy kind node) cs env rs) (length (actedColumns (operatorBy kind node) cs)) most r cells
 
   pub select-acts : node .kind ≡ 2 → Gives (filter (λ q. holds (nodeTest node) (bind cs q env)) rs) (length cs) most r cells → Acts (node .kind)
-  unfolding operatorBy acted act
+  unfolding operatorBy acted actWithin
   select-acts e = subst (λ kind. Gives (filter (λ q. holds (nodeTest node) (bind cs q env)) rs) (length cs) most r cells → Acts kind) (sym e) (λ g. g)
 
   pub project-acts : node .kind ≡ 3 → Gives (map (cut (nodeList node) cs env) rs) (length (nodeList node)) most r cells → Acts (node .kind)
-  unfolding operatorBy acted act
+  unfolding operatorBy acted actWithin
   project-acts e = subst (λ kind. Gives (map (cut (nodeList node) cs env) rs) (length (nodeList node)) most r cells → Acts kind) (sym e) (λ g. g)

@@ -9,7 +9,7 @@ use lib.ListN.{length, take, drop}
 use lib.Seq.{take-take}
 use borrow.Rule.Slice.PartMut.{putMid, take-put}
 use Rattle.algebra.specs.Lists.{flatMap}
-use Rattle.algebra.specs.Plans.{Row, Env, Tables, unit, Plan, leaf, bind, columns, eval}
+use Rattle.algebra.specs.Plans.{Row, Env, Tables, unit, Plan, leaf, bind, columns, eval, evalWithin}
 use Rattle.algebra.specs.Places.{Operator}
 use Rattle.algebra.specs.Refusals.{width, bound, hasRegion, countedRows, part}
 use Rattle.algebra.proofs.Needs.{extent}
@@ -54,7 +54,7 @@ kid-of {m = m} r g = record { gives = g; lies = rows-fit m r (g .few) }
 -- ---- no node, and a node with no children
 
 pub past-arm : (T : Tables) (P : Plan) (env : Env) (cells : List ℕ) → P ≡ leaf unit → Gives (eval T P env) (width T P) (bound T P) 1 cells
-unfolding eval columns bound chunk
+unfolding evalWithin columns bound chunk
 past-arm T P env cells e =
     let g : Gives (eval T (leaf unit) env) (width T (leaf unit)) (bound T (leaf unit)) 1 cells = record { is = refl; few = omega arith } in
     subst (λ (p : Plan). Gives (eval T p env) (width T p) (bound T p) 1 cells) (sym e) g

@@ -9,7 +9,7 @@ use lib.Dec.{ltb}
 use lib.ListN.{length, length-append}
 use borrow.Author.Tests.{le-ltb}
 use Rattle.algebra.specs.Lists.{flatMap}
-use Rattle.algebra.specs.Plans.{Env, Tables, Leaf, Unary, select, project, distinct, group, sort, Binary, cross, semi, quant, fold, each, pair, Plan, leaf, one, two, bind, unaryColumns, columns, nested, around, emit, joined, eval}
+use Rattle.algebra.specs.Plans.{Env, Tables, Leaf, Unary, select, project, distinct, group, sort, Binary, cross, semi, quant, fold, each, pair, Plan, leaf, one, two, bind, unaryColumns, columns, nested, around, emit, joinedWithin, eval, evalWithin}
 use Rattle.algebra.specs.Places.{Operator, leafNode, unaryNode, binaryNode, size}
 use Rattle.algebra.specs.Refusals.{width, bound, unaryRegion, hasRegion, part}
 use Rattle.algebra.proofs.Refusals.{in-view-one}
@@ -56,7 +56,7 @@ pub record Double (T : Tables) (op : Operator) (P p q : Plan) : Type 0 where
 
 module _ (T : Tables) where
   childless : (x : Leaf) → Childless T (leafNode x) (leaf x)
-  unfolding eval columns bound
+  unfolding evalWithin columns bound
   childless x = record { rows = λ env. refl; wide = refl; most = refl }
 
   first-one : (u : Unary) (p : Plan) → First T (unaryNode u) (one u p) p
@@ -82,12 +82,12 @@ module _ (T : Tables) where
   slim-one (sort d ids) p s e = absurd (true≢false e)
 
   pub single : (u : Unary) (p : Plan) → Single T (unaryNode u) (one u p) p
-  unfolding eval columns bound acted
+  unfolding evalWithin columns bound acted
   single u p = record { rows = λ env. refl; ids = refl; most = refl; slim = slim-one u p }
 
   double-rows : (b : Binary) (e f : Plan) (m : Bool) (env : Env) → nested b ≡ m
       → eval T (two b e f) env ≡ flatMap (λ l. emit b (columns T f) l (bind (columns T e) l env) (eval T f (around m env (bind (columns T e) l env)))) (eval T e env)
-  unfolding eval joined
+  unfolding evalWithin joinedWithin
   double-rows b e f m env h = ap (λ (z : Bool). flatMap (λ l. emit b (columns T f) l (bind (columns T e) l env) (eval T f (around z env (bind (columns T e) l env)))) (eval T e env)) h
 
   double : (b : Binary) (e f : Plan) → Double T (binaryNode b) (two b e f) e f

@@ -12,7 +12,7 @@ use lib.Seq.{paste}
 use borrow.Rule.Slice.PartMut.{putMid, take-put}
 use Rattle.algebra.specs.Lists.{flip, any}
 use Rattle.algebra.specs.Cells.{compares, aggregate}
-use Rattle.algebra.specs.Plans.{Row, Env, bind, holds, emit}
+use Rattle.algebra.specs.Plans.{Row, Env, bind, holds, emitWithin}
 use Rattle.algebra.proofs.Lists.{all-any}
 use Rattle.reading.specs.declared.plan.Node.{Node}
 use Rattle.reading.specs.Tree.{comparisonOf, aggregateOf, operatorBy, operatorOf, nodeTest}
@@ -61,13 +61,13 @@ emitted-none {rows} {c} w dst rest e = record { gives = gives-none rows w (drop 
 -- ---- an Each, with a right row and with none
 module _ (ds : List ℕ) (src w dst behind : ℕ) (entry exit : List ℕ) where
   pub each-joined : (k : ℕ) → 0 < k → JoinGiven src w dst behind k (length ds) entry exit → EachGiven ds src w dst behind k entry k exit
-  unfolding emit chunk
+  unfolding emitWithin chunk
   each-joined zero h g = absurd (omega arith)
   each-joined (suc k) h g = λ env. record { gives = record { is = g .gives .is; few = omega arith }; before = g .before; behind = g .behind }
 
   pub each-blank : (k : ℕ) → k ≤ 0 → dst + (w + length ds) ≤ src → Written dst (w + length ds) (rowAt src w entry ++ replicate (length ds) 0) entry exit
       → EachGiven ds src w dst behind k entry 1 exit
-  unfolding emit chunk
+  unfolding emitWithin chunk
   each-blank zero h room g = λ env. emitted-one refl g (omega arith)
   each-blank (suc k) h room g = absurd (omega arith)
 
@@ -149,7 +149,7 @@ module _ (node : Node) (cs ds : List ℕ) (env : Env) (f : Found) (found : Found
     asked-turned k h = fun-ext (λ r. ap₂ _&&_ (sym (h r)) (ap not (sym (found .test l r)) ∙ sym (turned-holds (f .test) l r)))
 
     keeps-by : (k : ℕ) → 6 ≤ k → k ≤ 9 → KeysFound k → Keeps k
-    unfolding operatorBy emitted emit hasKeys keyComparison keysHold keepsRow
+    unfolding operatorBy emitted emitWithin hasKeys keyComparison keysHold keepsRow
     keeps-by =
         by-keeping (λ k. KeysFound k → Keeps k)
         (λ h. ap (λ (m : Row → Bool). cond (any m rs) (l ∷ []) []) (asked 6 h))
@@ -192,7 +192,7 @@ module _ (node : Node) (cs ds : List ℕ) (src dst behind k : ℕ) (entry : List
       × ((env : Env) (exit : List ℕ) → JoinGiven src (length cs) dst behind k (length ds) entry exit → Given kind env k exit)
 
   pub crosses : node .kind ≡ 5 → Crosses (node .kind)
-  unfolding operatorBy emitted emit
+  unfolding operatorBy emitted emitWithin
   crosses e = subst Crosses (sym e) (λ h. rw joined-width at (h .below), λ env exit g. wider (sym joined-width) g)
 
   -- the same; with no right row, once, with blanks
@@ -222,7 +222,7 @@ module _ (node : Node) (cs ds : List ℕ) (src dst behind k : ℕ) (entry : List
       → Written dst (length cs + 1) (rowAt src (length cs) entry ++ (cell ∷ [])) entry exit → Given kind env 1 exit)
 
   pub gathers : (node .kind ≡ 10) ⊎ (node .kind ≡ 12) → Gathers (node .kind)
-  unfolding operatorBy emitted emit passing aggregateIn hasTest
+  unfolding operatorBy emitted emitWithin passing aggregateIn hasTest
   gathers =
       ⊎-elim
       (λ e.

@@ -12,7 +12,7 @@ use lib.Seq.{paste, paste-zero, paste-suc, length-paste, drop-cons, drop-drop, d
 use borrow.Author.Tests.{eqb-true, eq-eqb, ne-eqb}
 use Rattle.algebra.specs.Lists.{same, any, firsts, flatMap}
 use Rattle.algebra.specs.Cells.{aggregate}
-use Rattle.algebra.specs.Plans.{Row, Env, bind, emit, act}
+use Rattle.algebra.specs.Plans.{Row, Env, bind, emitWithin, actWithin}
 use Rattle.algebra.proofs.Lists.{any-map}
 use Rattle.reading.specs.Tree.{aggregateOf, operatorOf, operatorBy}
 use Rattle.reading.specs.declared.plan.Node.{Node}
@@ -84,7 +84,7 @@ chunk-given cells cells′ out dst x y to inside e =
 -- ---- what Group gives
 acted-group : (node : Node) (cs : List ℕ) (env : Env) (rows : List Row) → node .kind ≡ 13
     → acted (operatorOf node) cs env rows ≡ flatMap (λ v. (v ++ (gathered (operatorOf node) cs (bind (node .left ∷ []) v env) rows ∷ [])) ∷ []) (firsts (map (λ q. bind cs q env (node .right) ∷ []) rows))
-unfolding operatorBy acted act emit passing aggregateIn
+unfolding operatorBy acted actWithin emitWithin passing aggregateIn
 acted-group node cs env rows e =
     ap (λ (k : ℕ). acted (operatorBy k node) cs env rows) e
     ∙ ap (λ (k : ℕ). flatMap (λ v. (v ++ (gathered (operatorBy k node) cs (bind (node .left ∷ []) v env) rows ∷ [])) ∷ []) (firsts (map (λ q. bind cs q env (node .right) ∷ []) rows))) (sym e)

@@ -9,7 +9,7 @@ use lib.ListN.{length, length-map, length-set, getD, set, replicate, getD-replic
 use lib.Seq.{getD-set-same, getD-set-other}
 use borrow.Author.Tests.{eqb-true, eqb-false, eq-eqb, ne-eqb, lt-ltb, le-ltb}
 use Rattle.algebra.specs.Lists.{flip, filter}
-use Rattle.algebra.specs.Cells.{Aggregate, count, origin, isNumber, eq, compares, aggregate}
+use Rattle.algebra.specs.Cells.{Aggregate, count, origin, isNumber, eq, compares, aggregate, aggregateWithin}
 use Rattle.algebra.specs.Plans.{Row, Env}
 use Rattle.algebra.proofs.Lists.{filter-out, any-count}
 use Rattle.reading.specs.Tree.{comparisonOf, aggregateOf, nodeAggregate}
@@ -124,7 +124,7 @@ module _ (node : Node) (cs ds : List ℕ) (env : Env) (f : Found) (found : Found
   no-aggregate = rw (le-ltb 9 (node .kind) (omega arith))
 
   counted : (l : Row) (rs : List Row) → foundCell f l rs ≡ origin + length (filter (meets f l) rs)
-  unfolding foundCells aggregate
+  unfolding foundCells aggregateWithin
   counted l rs =
       aggregate-cells (f .code) 0 (node .column) (foundCells f l rs)
       ∙ ap (λ (g : Aggregate). aggregate g (foundCells f l rs)) (found .code ∙ aggregate-of node ∙ ap (λ (b : Bool). cond b (nodeAggregate node) count) no-aggregate)

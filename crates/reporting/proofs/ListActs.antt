@@ -7,7 +7,7 @@ use native.Mathlib.Omega.{arith}
 use lib.Dec.{eqb}
 use lib.ListN.{length}
 use Rattle.algebra.specs.Lists.{firsts}
-use Rattle.algebra.specs.Plans.{Row, Env, cut, act}
+use Rattle.algebra.specs.Plans.{Row, Env, cut, actWithin}
 use Rattle.algebra.specs.Refusals.{hasRegion}
 use Rattle.reading.specs.declared.plan.Node.{Node}
 use Rattle.reading.specs.Tree.{operatorBy, operatorOf, nodeList}
@@ -66,13 +66,13 @@ module _ (node : Node) (cs : List ℕ) where
     group-acts e g = rw (group-columns e) g
 
     pub sort-acts : node .kind ≡ 14 → SortedBy (eqb (node .arg) 1) (nodeList node) cs rs (length cs) most r cells → ActsBy (node .kind)
-    unfolding operatorBy acted act
+    unfolding operatorBy acted actWithin
     sort-acts e g = subst ActsBy (sym e) (g .under env)
 
     -- each row was cut to the list, and of these the first occurrences are kept
     pub distinct-acts : node .kind ≡ 4 → (given n : ℕ) (middle : List ℕ) → n ≡ length (nodeList node) → Gives (map (cut (nodeList node) cs env) rs) (length (nodeList node)) most given middle
         → Gives (firsts (chunk given n middle)) n given r cells → ActsBy (node .kind)
-    unfolding operatorBy acted act
+    unfolding operatorBy acted actWithin
     distinct-acts e given n middle l p g =
         subst ActsBy (sym e)
         (record {

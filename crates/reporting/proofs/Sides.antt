@@ -9,8 +9,8 @@ use lib.ListN.{length, take, getD}
 use lib.Seq.{getD-take}
 use borrow.Author.Tests.{eqb-true, eqb-false, eq-eqb, ne-eqb, lt-ltb, le-ltb}
 use Rattle.algebra.specs.Lists.{flip, filter, member, if_then_else_}
-use Rattle.algebra.specs.Cells.{Aggregate, isNumber, oneBlank, eq, compares, aggregate}
-use Rattle.algebra.specs.Plans.{Row, Env, bind, measure, test, truth, holds, gather}
+use Rattle.algebra.specs.Cells.{Aggregate, isNumber, oneBlank, eq, compares, aggregate, aggregateWithin}
+use Rattle.algebra.specs.Plans.{Row, Env, bind, measure, test, truth, holds, gatherWithin}
 use Rattle.algebra.proofs.Cells.{eqb-sym}
 use Rattle.reading.specs.Tree.{comparisonOf, aggregateOf, formOf, nodeTest, operatorOf}
 use Rattle.reading.specs.declared.plan.Node.{Node}
@@ -174,7 +174,7 @@ equal-places c a n k = places-for c a n k (c .left) (c .right) refl refl
 
 -- an aggregate of cells does not read its column
 pub aggregate-cells : (code c d : ℕ) (xs : List ℕ) → aggregate (aggregateOf code c) xs ≡ aggregate (aggregateOf code d) xs
-unfolding aggregate
+unfolding aggregateWithin
 aggregate-cells code c d xs = go (eqb code 0) refl
   where
     go : (b : Bool) → eqb code 0 ≡ b → aggregate (aggregateOf code c) xs ≡ aggregate (aggregateOf code d) xs
@@ -191,7 +191,7 @@ module _ (node : Node) (cs ds : List ℕ) (env : Env) (f : Found) (found : Found
       ∙ sym (passing-of node e)
 
   pub found-gathered : (l : Row) (rs : List Row) → foundCell f l rs ≡ gathered (operatorOf node) ds (bind cs l env) rs
-  unfolding foundCells gather
+  unfolding foundCells gatherWithin
   found-gathered l rs =
       aggregate-cells (f .code) 0 (node .column) (foundCells f l rs)
       ∙ (λ i. aggregate (found .code i) (map (λ r. found .measured l r i) (filter (λ r. found-passing l r i) rs)))

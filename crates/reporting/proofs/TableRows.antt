@@ -10,7 +10,7 @@ use lib.ListN.{length, take, drop, set, replicate, length-map}
 use lib.Seq.{take-at, drop-at, take-take, take-nil, take-add, take-suc-set}
 use Rattle.algebra.specs.Lists.{upward}
 use Rattle.algebra.specs.Plans.{Row}
-use Rattle.reading.specs.Bytes.{u32At}
+use Rattle.reading.specs.Bytes.{unsignedAt}
 use Rattle.reading.specs.TableSet.{columnsOf, rowsOf, cellsOf, wordOf, cellAt, tableFrom, tableRows, tablesOf}
 use Rattle.reading.specs.Tree.{operatorBy, operatorOf}
 use Rattle.reading.specs.declared.plan.Node.{Node}
@@ -37,11 +37,11 @@ next-cell f cells i e h =
     ∙ sym (ap (map f) (upward-more i 0) ∙ map-append f (upward i 0) ((0 + i) ∷ []) ∙ rw z)
 
 -- a cell that the table has is the word of its bytes
-pub cell-word : (from : List ℕ) (i : ℕ) → i < length from / 4 → wordOf (u32At from (4 * i)) ≡ cellAt from i
+pub cell-word : (from : List ℕ) (i : ℕ) → i < length from / 8 → wordOf (unsignedAt 8 from (8 * i)) ≡ cellAt from i
 cell-word from i h = simp (lt-ltb _ _ h)
 
 -- past the table's last cell every cell is blank
-blank-cells : (from : List ℕ) (n k : ℕ) → ((j : ℕ) → k ≤ j → j < k + n → length from / 4 ≤ j) → replicate n 0 ≡ map (cellAt from) (upward n k)
+blank-cells : (from : List ℕ) (n k : ℕ) → ((j : ℕ) → k ≤ j → j < k + n → length from / 8 ≤ j) → replicate n 0 ≡ map (cellAt from) (upward n k)
 blank-cells from zero k h = refl
 blank-cells from (suc n) k h =
     let e : 0 ≡ cellAt from k = simp (le-ltb _ _ (h k (omega arith) (omega arith))) in
@@ -49,7 +49,7 @@ blank-cells from (suc n) k h =
 
 -- the first k cells were written to the front, and then blanks up to n
 pub cells-blanks : (from c d : List ℕ) (k n : ℕ) → take k c ≡ map (cellAt from) (upward k 0) → Written k (n - k) (replicate (n - k) 0) c d → k ≤ n
-    → ((j : ℕ) → k ≤ j → j < n → length from / 4 ≤ j) → take n d ≡ map (cellAt from) (upward n 0)
+    → ((j : ℕ) → k ≤ j → j < n → length from / 8 ≤ j) → take n d ≡ map (cellAt from) (upward n 0)
 cells-blanks from c d k n e p h past =
     let f : ℕ → ℕ = cellAt from in
     let sum : k + (n - k) ≡ n = omega arith in

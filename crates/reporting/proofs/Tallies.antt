@@ -9,7 +9,7 @@ use lib.Dec.{eqb, ltb, leb}
 use lib.ListN.{length, take, length-append}
 use borrow.Author.Tests.{eqb-true, leb-true, leb-false, ne-eqb, lt-ltb, le-leb, lt-leb}
 use Rattle.algebra.specs.Lists.{filter, any, total}
-use Rattle.algebra.specs.Cells.{Aggregate, count, over, Summary, sum, least, greatest, blank, offScale, origin, reach, inRange, isBlank, needsAll, sumOf, summary, aggregate}
+use Rattle.algebra.specs.Cells.{Aggregate, count, over, Summary, sum, least, greatest, blank, offScale, origin, reach, inRange, isBlank, needsAll, sumOf, summary, aggregate, aggregateWithin}
 use Rattle.algebra.specs.Plans.{Row}
 use Rattle.algebra.proofs.Lists.{filter-length}
 use Rattle.algebra.proofs.Cells.{eqb-sym}
@@ -159,7 +159,7 @@ sum-in-range n s cell e =
 
 -- every aggregate is read off it
 pub tallies-read : (g : Aggregate) (xs : List ℕ) (t : Tally) → Tallies xs t → aggregate g xs ≡ tallied g t
-unfolding aggregate tallied
+unfolding aggregateWithin tallied
 tallies-read count xs t says = sym (ap (λ (n : ℕ). origin + n) (says .counted))
 tallies-read (over k c) xs t says =
     let missing : ltb (t .numbers) (t .rows) ≡ any isBlank xs = (λ j. ltb (says .numbered j) (says .counted j)) ∙ fewer-numbers xs in

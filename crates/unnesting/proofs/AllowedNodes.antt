@@ -11,9 +11,8 @@ use lib.Seq.{getD-drop}
 use borrow.Author.Tests.{le-leb, leb-true, ltb-true}
 use Rattle.algebra.specs.Lists.{if_then_else_}
 use Rattle.algebra.specs.Cells.{inRange}
-use Rattle.reading.specs.Bytes.{byteAt, unsignedAt}
-use Rattle.reading.specs.TableSet.{wordOf}
-use Rattle.reading.specs.Plan.{kindTable, kindEntry, testLimits, testRow, limited, countAllowed, listAllowed, testAllowed, fieldsAllowed, nodePart, testOf, nodeOf, nodeAt, nodesOf, nodesAllowed}
+use Rattle.reading.specs.Bytes.{byteAt}
+use Rattle.reading.specs.Plan.{kindTable, kindEntry, testLimits, testRow, limited, countAllowed, listAllowed, testNumber, testAllowed, fieldsAllowed, nodePart, testOf, nodeOf, nodeAt, nodesOf, nodesAllowed}
 use Rattle.reading.specs.declared.plan.Test.the-variants.{Always, Columns, Number}
 use Rattle.reading.specs.declared.plan.Node.{Node}
 use Rattle.reading.proofs.Laws.{all-at}
@@ -103,7 +102,7 @@ module _ (part : List ℕ) (h : fieldsAllowed part ≡ true) where
   test-kept =
       let whole = and-right s t (and-right c (s && t) (and-right l (c && (s && t)) (and-right k (l && (c && (s && t))) h))) in
       let limit = all-at 16 (λ j. leb (byteAt (drop 16 part) j) (byteAt (drop (testRow (kindEntry (byteAt part 0) 9) (byteAt part 16)) testLimits) j))
-      (and-left form (not (eqb (byteAt part 16) 2) || inRange (wordOf (unsignedAt 8 part 20))) whole) 1 (omega arith) in
+      (and-left form (not (eqb (byteAt part 16) 2) || inRange (testNumber part)) whole) 1 (omega arith) in
       rw (getD-drop 16 part 1 0) at (within (byteAt (drop 16 part) 1) (byteAt (drop (testRow (kindEntry (byteAt part 0) 9) (byteAt part 16)) testLimits) 1) 5 limit (test-limit (kindEntry (byteAt part 0) 9) (byteAt part 16)))
 
   aggregate-kept : (byteAt part 0 ≡ 10) ⊎ ((byteAt part 0 ≡ 12) ⊎ (byteAt part 0 ≡ 13)) → leb (byteAt part 1) 3 ≡ true
@@ -121,7 +120,7 @@ module _ (part : List ℕ) (h : fieldsAllowed part ≡ true) where
     counted = count-kept;
   }
     where
-      by : (a b : Bool) → leb (testComparison (if a then Always else if b then Columns (byteAt part 17) (byteAt part 19) (byteAt part 20) else Number (byteAt part 17) (byteAt part 19) (wordOf (unsignedAt 8 part 20)))) 5 ≡ true
+      by : (a b : Bool) → leb (testComparison (if a then Always else if b then Columns (byteAt part 17) (byteAt part 19) (byteAt part 20) else Number (byteAt part 17) (byteAt part 19) (testNumber part))) 5 ≡ true
       by true b = refl
       by false true = test-kept
       by false false = test-kept
@@ -130,5 +129,5 @@ module _ (part : List ℕ) (h : fieldsAllowed part ≡ true) where
 pub allowed-node : (plan : List ℕ) → PlanKnown plan → (i : ℕ) → i < nodesOf plan → AllowedNode (nodeAt plan i)
 unfolding nodeAt nodesAllowed
 allowed-node plan known i b =
-    let fits : 38 + 32 * i ≤ length plan = omega (arith, known .long) in
-    rw (le-leb (38 + 32 * i) (length plan) fits) (part-node (nodePart plan i) (all-at (nodesOf plan) (λ i. fieldsAllowed (nodePart plan i)) (known .nodes) i b))
+    let fits : 6 + 32 * i + 32 ≤ length plan = omega (arith, known .long) in
+    rw (le-leb (6 + 32 * i + 32) (length plan) fits) (part-node (nodePart plan i) (all-at (nodesOf plan) (λ i. fieldsAllowed (nodePart plan i)) (known .nodes) i b))

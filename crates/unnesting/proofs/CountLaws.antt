@@ -91,7 +91,7 @@ operator-distinct node k e = rw e
 
 node-long : (plan : List ℕ) (i : ℕ) → length (nodeAt plan i .list) ≡ 7
 unfolding nodeAt nodeOf
-node-long plan i = by (leb (38 + 32 * i) (length plan))
+node-long plan i = by (leb (6 + 32 * i + 32) (length plan))
   where
     by : (b : Bool) → length ((if b then nodeOf (nodePart plan i) else nodeOf []) .list) ≡ 7
     by true = refl

@@ -1,7 +1,7 @@
 -- The examples, computed. Assumes nothing.
 use mathlib.Core.Path.{refl}
-use Rattle.algebra.specs.Cells.{compares, aggregate}
-use Rattle.algebra.specs.Plans.{truth, columns, gather, emit, act, joined, eval}
+use Rattle.algebra.specs.Cells.{compares, aggregateWithin}
+use Rattle.algebra.specs.Plans.{truth, columns, gatherWithin, emitWithin, actWithin, joinedWithin, evalWithin}
 use Rattle.algebra.specs.Places.{size, flatten, subtrees, modify, look}
 use Rattle.algebra.specs.Names.{unaryFree, free, closed, introduced}
 use Rattle.algebra.specs.Refusals.{bound, need, fields, once, inView, refusal, passes}
@@ -20,5 +20,5 @@ use Rattle.unnesting.specs.StayNote.{stayNumber}
 use Rattle.unnesting.specs.Examples.{clubSet, movedSet, clubPlan, projectedPlan, crossPlan, emptyInner, Examples}
 
 pub examples : Examples
-unfolding compares aggregate truth columns gather emit act joined eval size flatten subtrees modify look unaryFree free closed introduced bound need fields once inView refusal passes ruleOf unnest rule weight attempt after smallest run sequencesOf stays noteAt startsWith allBelow cellsOf cellsAllowed readTable readFrom readSet tableFrom tableRows listEnds fieldsAllowed testOf nodeOf nodeAt nodesAllowed readPlan operatorBy treeAt planAt wholeTree nodeBytes planBytes planRefusal inputRefusal reportNumber passedThrough unnestNeed unnestNumber stayNumber clubSet movedSet clubPlan projectedPlan crossPlan emptyInner
+unfolding compares aggregateWithin truth columns gatherWithin emitWithin actWithin joinedWithin evalWithin size flatten subtrees modify look unaryFree free closed introduced bound need fields once inView refusal passes ruleOf unnest rule weight attempt after smallest run sequencesOf stays noteAt startsWith allBelow cellsOf cellsAllowed readTable readFrom readSet tableFrom tableRows listEnds fieldsAllowed testOf nodeOf nodeAt nodesAllowed readPlan operatorBy treeAt planAt wholeTree nodeBytes planBytes planRefusal inputRefusal reportNumber passedThrough unnestNeed unnestNumber stayNumber clubSet movedSet clubPlan projectedPlan crossPlan emptyInner
 examples = record { m1 = refl; m2 = refl; m3 = refl; m4 = refl; m5 = refl; m6 = (refl, refl); m7 = (refl, refl); m8 = (refl, refl, refl, (refl, refl), refl); m9 = (refl, refl, refl, refl, refl); projected = (refl, refl, refl) }

@@ -8,7 +8,7 @@ use native.Mathlib.Nat.{zero-mul, suc-mul}
 use lib.ListN.{length, replicate, length-append, length-map, length-replicate}
 use Rattle.algebra.specs.Lists.{flip, filter, any, flatMap, same, firsts, upward}
 use Rattle.algebra.specs.Cells.{eq, blank}
-use Rattle.algebra.specs.Plans.{Row, Env, Tables, holds, bind, matched, quantify, cut, arranged, Leaf, unit, scan, Unary, select, project, distinct, group, sort, Binary, cross, semi, quant, fold, each, pair, Plan, leaf, one, two, nested, around, leafColumns, unaryColumns, binaryColumns, columns, emit, act, joined, leafRows, eval}
+use Rattle.algebra.specs.Plans.{Row, Env, Tables, holds, bind, matched, quantify, cut, arranged, Leaf, unit, scan, Unary, select, project, distinct, group, sort, Binary, cross, semi, quant, fold, each, pair, Plan, leaf, one, two, nested, around, leafColumns, unaryColumns, binaryColumns, columns, emit, emitWithin, act, actWithin, joinedWithin, leafRows, eval, evalWithin}
 use Rattle.algebra.proofs.Sorting.{All, all-arranged}
 use Rattle.reading.specs.TableSet.{columnsOf, rowsOf, tableFrom, tableCell, tableRows, tablesOf}
 use Rattle.reading.proofs.Places.{upward-length}
@@ -63,7 +63,7 @@ wide-longer l xs cs ds e f = more (length-append l xs ∙ ((λ i. e i + f i) ∙
 
 -- ---- what a left row gives
 emit-wide : (b : Binary) (cs ds : List ℕ) (l : Row) (env : Env) (rs : List Row) → length l ≡ length cs → Wide (length ds) rs → Wide (length (binaryColumns b cs ds)) (emit b ds l env rs)
-unfolding emit
+unfolding emitWithin
 emit-wide cross cs ds l env rs e h = rw (length-append cs ds) (wide-join l e h)
 emit-wide (semi m a b t) cs ds l env rs e h = wide-if (flip m (any (λ r. matched a b eq t (bind ds r env)) rs)) l e
 emit-wide (quant m t) cs ds l env rs e h = wide-if (quantify m (λ r. holds t (bind ds r env)) rs) l e
@@ -76,7 +76,7 @@ cut-length : (ids cs : List ℕ) (env : Env) (r : Row) → length (cut ids cs en
 cut-length ids cs env r = length-map ids (bind cs r env)
 
 act-wide : (u : Unary) (cs : List ℕ) (env : Env) (rs : List Row) → Wide (length cs) rs → Wide (length (unaryColumns u cs)) (act u cs env rs)
-unfolding act
+unfolding actWithin
 act-wide (select t) cs env rs h = wide-filter (λ r. holds t (bind cs r env)) h
 act-wide (project ids) cs env rs h = wide-map (cut ids cs env) rs (cut-length ids cs env)
 act-wide (distinct ids) cs env rs h = wide-firsts (wide-map (cut ids cs env) rs (cut-length ids cs env))
@@ -92,7 +92,7 @@ module _ (T : Tables) (tables : (t : ℕ) → Wide (T .width t) (T .rows t)) whe
   leaf-wide (scan t n) = rw (upward-length (T .width t) n) (tables t)
 
   pub eval-wide : (p : Plan) (env : Env) → Wide (length (columns T p)) (eval T p env)
-  unfolding eval columns joined
+  unfolding evalWithin columns joinedWithin
   eval-wide (leaf x) env = leaf-wide x
   eval-wide (one u p) env = act-wide u (columns T p) env (eval T p env) (eval-wide p env)
   eval-wide (two b e f) env =

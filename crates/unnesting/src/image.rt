@@ -25,12 +25,12 @@ fn number_bytes(number: u64) -> [u8; 8]
     [
         (code % 256) as u8,
         (code / 256 % 256) as u8,
-        (code / 65536 % 256) as u8,
-        (code / 16777216 % 256) as u8,
-        (code / 4294967296 % 256) as u8,
-        (code / 1099511627776 % 256) as u8,
-        (code / 281474976710656 % 256) as u8,
-        (code / 72057594037927936) as u8,
+        (code / 256 / 256 % 256) as u8,
+        (code / 256 / 256 / 256 % 256) as u8,
+        (code / 256 / 256 / 256 / 256 % 256) as u8,
+        (code / 256 / 256 / 256 / 256 / 256 % 256) as u8,
+        (code / 256 / 256 / 256 / 256 / 256 / 256 % 256) as u8,
+        (code / 256 / 256 / 256 / 256 / 256 / 256 / 256 % 256) as u8,
     ]
 }
 
@@ -46,7 +46,22 @@ fn test_image(negated: bool, test: Test) -> [u8; 16]
             left,
             right,
         } => [
-            1, comparison, mark, left, right, 0, 0, 0, 0, 0, 0, 0, 0, 0, 0, 0,
+            1,
+            comparison,
+            mark,
+            left,
+            right,
+            0,
+            0,
+            0,
+            0,
+            0,
+            0,
+            0,
+            0,
+            0,
+            0,
+            0,
         ],
         Test::Number {
             comparison,
@@ -55,8 +70,22 @@ fn test_image(negated: bool, test: Test) -> [u8; 16]
         } => {
             let code = number_bytes(number);
             [
-                2, comparison, mark, left, code[0], code[1], code[2], code[3], code[4], code[5],
-                code[6], code[7], 0, 0, 0, 0,
+                2,
+                comparison,
+                mark,
+                left,
+                code[0],
+                code[1],
+                code[2],
+                code[3],
+                code[4],
+                code[5],
+                code[6],
+                code[7],
+                0,
+                0,
+                0,
+                0,
             ]
         }
     }

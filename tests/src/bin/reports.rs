@@ -1,7 +1,7 @@
 //! Writes the cases for the reporting program, and the answers it has to give.
 //!
 //! Usage: reports CASEFILE EXPECTED. The case file is as that of `cases`. A line of the other file is the refusal, or the counts
-//! and the cells of the report, each as its code plus 2^31.
+//! and the cells of the report, each as its code plus 2^63.
 
 use second::calls::report;
 use second::cases::{cases, Case};
@@ -56,7 +56,7 @@ fn inputs() -> Vec<(Vec<u8>, Vec<u8>)> {
     while all.len() < with_random {
         let input = accepted(&mut random);
         let (set, plan) = (input.set_bytes(), input.plan_bytes());
-        if set.len() <= 2000 {
+        if set.len() <= 4000 {
             all.push((set, plan));
         }
     }
@@ -70,8 +70,8 @@ fn answer(set: &[u8], plan: &[u8]) -> (u8, String) {
     match report(set, plan, OUTPUT, SCRATCH) {
         Err(number) => (number, format!("refused {number}")),
         Ok(report) => {
-            let cells: String =
-                report.codes.iter().map(|code| format!(" {}", i64::from(*code) + 2_147_483_648)).collect();
+            let words = report.codes.iter().map(|&code| i128::from(code) + (1 << 63));
+            let cells: String = words.map(|word| format!(" {word}")).collect();
             (0, format!("rows {} columns {}{cells}", report.rows, report.columns))
         }
     }

@@ -1,18 +1,19 @@
 //! The list of faults, by number.
 
-use super::{alone, beside, change, Draft, Fault, Stage};
+use super::{alone, beside, change, header, Draft, Fault, Stage};
 use crate::build::*;
-use crate::cells::{BLANK, OFF_SCALE};
-use crate::nodes::{write_plan, Field, NODE};
+use crate::nodes::{write_plan_in, Field};
 use crate::plan::Comparison::{Equal, Greater, Less};
 use crate::plan::{Aggregate, Plan, ALWAYS};
-use crate::tables::write_table;
+use crate::tables::{write_table, Table};
+use crate::version::{VERSION_1, VERSION_2};
 
 /// All faults, by number.
 pub fn faults() -> Vec<Fault> {
     let mut all = set_faults();
     all.extend(header_faults());
     all.extend(field_faults());
+    all.extend(wide_field_faults());
     all.extend(tree_faults());
     all.extend(table_number_faults());
     all.extend(introduction_faults());
@@ -29,7 +30,7 @@ fn set_faults() -> Vec<Fault> {
     vec![
         set(1, "one letter of a table", |draft, _| draft.after_tables(b"T")),
         set(1, "two letters of a table", |draft, _| draft.after_tables(b"TB")),
-        set(1, "seven bytes of a header", |draft, _| draft.after_tables(b"TBL\x01\x00\x02\x01")),
+        set(1, "seven bytes of a header", |draft, _| draft.after_tables(&draft.header(2, 1)[..7])),
         set(1, "a short header with a wrong mark", |draft, _| draft.after_tables(b"XYZ\x09")),
         set(1, "one byte of the last cell missing", |draft, _| draft.last_with_cells()?.pop().map(|_| ())),
         set(1, "no cells after a header with rows", |draft, _| {
@@ -44,13 +45,22 @@ fn set_faults() -> Vec<Fault> {
             let part = draft.last_with_cells()?;
             (part[5] < 16).then(|| part[5] += 1)
         }),
-        set(1, "1,000 rows of 16 without a cell", |draft, _| draft.after_tables(b"TBL\x01\x00\x10\xe8\x03")),
+        set(1, "1,000 rows of 16 without a cell", |draft, _| draft.after_tables(&draft.header(16, 1000))),
         set(2, "first letter", |draft, random| draft.table_byte(random, 0, b't')),
         set(2, "second letter", |draft, random| draft.table_byte(random, 1, b'P')),
         set(2, "third letter", |draft, random| draft.table_byte(random, 2, b'X')),
         set(2, "version 0", |draft, random| draft.table_byte(random, 3, 0)),
-        set(2, "version 2", |draft, random| draft.table_byte(random, 3, 2)),
-        set(2, "version 257", |draft, random| draft.table_byte(random, 4, 1)),
+        set(2, "version 3", |draft, random| draft.table_byte(random, 3, 3)),
+        set(2, "the other version", |draft, random| draft.table_byte(random, 3, draft.other().number as u8)),
+        set(2, "256 versions later", |draft, random| draft.table_byte(random, 4, 1)),
+        set(2, "a table of the other version", |draft, _| {
+            draft.after_tables(&write_table(&draft.other(), &sized(2, 2)))
+        }),
+        alone(set(2, "a set of the other version", |draft, _| {
+            let other = draft.other();
+            draft.parts = draft.tables.iter().map(|table| write_table(&other, table)).collect();
+            (!draft.parts.is_empty()).then_some(())
+        })),
         set(2, "a plan in the place of a table", |draft, _| {
             let plan = draft.bytes.clone();
             if plan.len() < 8 {
@@ -64,22 +74,31 @@ fn set_faults() -> Vec<Fault> {
         set(3, "1,001 rows", |draft, random| draft.table_rows(random, 1001)),
         set(3, "65,535 rows", |draft, random| draft.table_rows(random, 65_535)),
         set(3, "1,024 rows", |draft, random| draft.table_rows(random, 1024)),
-        set(3, "no columns and no rows", |draft, _| draft.after_tables(b"TBL\x01\x00\x00\x00\x00")),
-        set(4, "one over the range", |draft, random| draft.cell(random, 2_000_000_001)),
-        set(4, "one under the range", |draft, random| draft.cell(random, -2_000_000_001)),
-        set(4, "one under off scale", |draft, random| draft.cell(random, OFF_SCALE - 1)),
-        set(4, "one over blank", |draft, random| draft.cell(random, BLANK + 1)),
-        set(4, "between range and off scale", |draft, random| draft.cell(random, 2_100_000_000)),
-        set(4, "between blank and range", |draft, random| draft.cell(random, -2_100_000_000)),
-        set(5, "a ninth table", |draft, _| draft.after_eight(&write_table(&sized(2, 1)))),
+        set(3, "no columns and no rows", |draft, _| draft.after_tables(&draft.header(0, 0))),
+        set(4, "one over the range", |draft, random| draft.cell(random, |version| version.largest + 1)),
+        set(4, "one under the range", |draft, random| draft.cell(random, |version| -version.largest - 1)),
+        set(4, "one under off scale", |draft, random| draft.cell(random, |version| version.off_scale - 1)),
+        set(4, "one over blank", |draft, random| draft.cell(random, |version| version.blank + 1)),
+        set(4, "between range and off scale", |draft, random| {
+            draft.cell(random, |version| version.largest + (version.off_scale - version.largest) / 2)
+        }),
+        set(4, "between blank and range", |draft, random| {
+            draft.cell(random, |version| version.blank + (-version.largest - version.blank) / 2)
+        }),
+        // Off scale and blank with one other bit. In version 2 the upper half of the first is that of off scale.
+        set(4, "off scale but for its lowest byte", |draft, random| {
+            draft.cell(random, |version| version.off_scale - 255)
+        }),
+        set(4, "blank but for a bit", |draft, random| draft.cell(random, |version| version.blank + (1 << 20))),
+        set(5, "a ninth table", |draft, _| draft.after_eight(&draft.written(2, 1))),
         set(5, "one byte after eight tables", |draft, _| draft.after_eight(b"T")),
         set(5, "a zero byte after eight tables", |draft, _| draft.after_eight(&[0])),
-        set(5, "a ninth table with a wrong mark", |draft, _| draft.after_eight(b"TBX\x01\x00\x01\x00\x00")),
+        set(5, "a ninth table with a wrong mark", |draft, _| draft.after_eight(&header(&draft.version, b"TBX", 1, 0))),
         set(5, "a ninth and a tenth table", |draft, _| {
-            let one = write_table(&sized(1, 0));
+            let one = draft.written(1, 0);
             draft.after_eight(&[one.clone(), one].concat())
         }),
-        set(5, "a ninth table of 17 columns", |draft, _| draft.after_eight(b"TBL\x01\x00\x11\x00\x00")),
+        set(5, "a ninth table of 17 columns", |draft, _| draft.after_eight(&draft.header(17, 0))),
     ]
 }
 
@@ -101,26 +120,35 @@ fn header_faults() -> Vec<Fault> {
         }),
         length("one byte missing", |draft, _| draft.bytes.pop().map(|_| ())),
         length("one byte too many", |draft, _| draft.zeros_after_plan(1)),
-        length("a node too many for the count", |draft, _| draft.zeros_after_plan(NODE)),
+        length("a node too many for the count", |draft, _| draft.zeros_after_plan(draft.version.node)),
         length("a node too few for the count", |draft, _| {
-            let size = draft.bytes.len();
-            (size >= 6 + NODE).then(|| draft.bytes.truncate(size - NODE))
+            let (size, node) = (draft.bytes.len(), draft.version.node);
+            (size >= 6 + node).then(|| draft.bytes.truncate(size - node))
         }),
         length("a count one too large", |draft, _| (draft.bytes[5] < 64).then(|| draft.bytes[5] += 1)),
         length("a header without nodes", |draft, _| (draft.bytes[5] > 0).then(|| draft.bytes.truncate(6))),
-        length("23 bytes too many", |draft, _| draft.zeros_after_plan(NODE - 1)),
+        length("a byte less than a node too many", |draft, _| draft.zeros_after_plan(draft.version.node - 1)),
+        length("as long as in the other version", |draft, _| {
+            draft.bytes.resize(6 + draft.other().node * draft.nodes.len(), 0);
+            Some(())
+        }),
         mark("first letter", |draft, _| draft.plan_byte(0, b'T')),
         mark("second letter", |draft, _| draft.plan_byte(1, b'p')),
         mark("third letter", |draft, _| draft.plan_byte(2, 0)),
         mark("version 0", |draft, _| draft.plan_byte(3, 0)),
-        mark("version 2", |draft, _| draft.plan_byte(3, 2)),
-        mark("version 257", |draft, _| draft.plan_byte(4, 1)),
+        mark("version 3", |draft, _| draft.plan_byte(3, 3)),
+        mark("the other version", |draft, _| draft.plan_byte(3, draft.other().number as u8)),
+        alone(mark("a plan of the other version", |draft, _| {
+            draft.bytes = write_plan_in(&draft.other(), &draft.plan);
+            Some(())
+        })),
+        mark("256 versions later", |draft, _| draft.plan_byte(4, 1)),
         mark("version 256", |draft, _| {
             draft.bytes[3] = 0;
             draft.plan_byte(4, 1)
         }),
         alone(mark("a set in the place of a plan", |draft, _| {
-            draft.bytes = write_table(&sized(1, 4));
+            draft.bytes = draft.written(1, 4);
             Some(())
         })),
         count("count 0 with the nodes there", |draft, _| draft.plan_byte(5, 0)),
@@ -132,7 +160,7 @@ fn header_faults() -> Vec<Fault> {
         count("count 255 with fewer nodes", |draft, _| draft.plan_byte(5, 255)),
         alone(count("65 nodes", |draft, _| {
             draft.bytes[5] = 65;
-            draft.bytes.resize(6 + 65 * NODE, 0);
+            draft.bytes.resize(6 + 65 * draft.version.node, 0);
             Some(())
         })),
         count("count 128 with fewer nodes", |draft, _| draft.plan_byte(5, 128)),
@@ -142,24 +170,15 @@ fn header_faults() -> Vec<Fault> {
 /// Refusal 9.
 fn field_faults() -> Vec<Fault> {
     let field = |name, apply| change(9, name, Stage::Nodes, apply);
-    fn any(_: &[u8; NODE]) -> bool {
+    fn any(_: &[u8]) -> bool {
         true
     }
     vec![
-        field("kind 15", |draft, random| {
-            let place = random.below(draft.nodes.len());
-            draft.nodes[place][0] = 15;
-            Some(())
-        }),
-        field("kind 255", |draft, random| {
-            let place = random.below(draft.nodes.len());
-            draft.nodes[place][0] = 255;
-            Some(())
-        }),
+        field("kind 15", |draft, random| draft.any_node(random, 0, 15)),
+        field("kind 255", |draft, random| draft.any_node(random, 0, 255)),
         field("byte 7", |draft, random| {
-            let place = random.below(draft.nodes.len());
-            draft.nodes[place][7] = random.between(1, 255) as u8;
-            Some(())
+            let byte = random.between(1, 255) as u8;
+            draft.any_node(random, 7, byte)
         }),
         field("byte 1 not listed", |draft, random| draft.unlisted(random, Field::Aggregate, 1, 1)),
         field("byte 2 not listed", |draft, random| draft.unlisted(random, Field::NewId, 2, 9)),
@@ -174,7 +193,7 @@ fn field_faults() -> Vec<Fault> {
         }),
         field("test form not listed", |draft, random| draft.unlisted(random, Field::Test, 16, 1)),
         field("not-mark not listed", |draft, random| draft.unlisted(random, Field::Test, 18, 1)),
-        field("last byte not listed", |draft, random| draft.unlisted(random, Field::Test, 23, 1)),
+        field("byte 23 not listed", |draft, random| draft.unlisted(random, Field::Test, 23, 1)),
         field("a Unit with a table", |draft, _| {
             let node = draft.nodes.iter_mut().find(|node| node[0] == 0)?;
             node[1] = 1;
@@ -202,7 +221,7 @@ fn field_faults() -> Vec<Fault> {
             draft.listed(random, Field::Test, |node| node[16] == 0, 19, 1)
         }),
         field("number with form 0", |draft, random| {
-            let place = random.between(20, 23);
+            let place = random.between(20, 19 + draft.version.cell);
             draft.listed(random, Field::Test, |node| node[16] == 0, place, 1)
         }),
         field("comparison 6 with form 1", |draft, random| {
@@ -213,52 +232,76 @@ fn field_faults() -> Vec<Fault> {
         }),
         field("byte 21 with form 1", |draft, random| draft.listed(random, Field::Test, |node| node[16] == 1, 21, 1)),
         field("byte 23 with form 1", |draft, random| draft.listed(random, Field::Test, |node| node[16] == 1, 23, 255)),
-        field("number one over the range", |draft, random| draft.test_number(random, 2_000_000_001)),
-        field("number one under the range", |draft, random| draft.test_number(random, -2_000_000_001)),
-        field("blank as a number", |draft, random| draft.test_number(random, BLANK)),
-        field("off scale as a number", |draft, random| draft.test_number(random, OFF_SCALE)),
+        field("number one over the range", |draft, random| draft.test_number(random, |version| version.largest + 1)),
+        field("number one under the range", |draft, random| draft.test_number(random, |version| -version.largest - 1)),
+        field("blank as a number", |draft, random| draft.test_number(random, |version| version.blank)),
+        field("off scale as a number", |draft, random| draft.test_number(random, |version| version.off_scale)),
+    ]
+}
+
+/// Refusal 9 in the bytes that a node has in version 2 alone. They suit no input of version 1.
+fn wide_field_faults() -> Vec<Fault> {
+    let field = |name, apply| change(9, name, Stage::Nodes, apply);
+    vec![
+        field("byte 28", |draft, random| draft.any_node(random, 28, 1)),
+        field("byte 29", |draft, random| draft.any_node(random, 29, 255)),
+        field("byte 30", |draft, random| draft.any_node(random, 30, 128)),
+        field("byte 31", |draft, random| draft.any_node(random, 31, 1)),
+        field("bytes 28 to 31 of a negative number", |draft, random| {
+            let node = draft.node(random, Field::Test, |node| node[16] == 2 && node.len() > 31 && node[27] == 255)?;
+            node[28..].fill(255);
+            Some(())
+        }),
+        field("byte 24 not listed", |draft, random| draft.unlisted(random, Field::Test, 24, 1)),
+        field("byte 27 not listed", |draft, random| draft.unlisted(random, Field::Test, 27, 128)),
+        field("byte 24 with form 0", |draft, random| draft.wide_test(random, |node| node[16] == 0, 24, 1)),
+        field("byte 27 with form 0", |draft, random| draft.wide_test(random, |node| node[16] == 0, 27, 255)),
+        field("byte 24 with form 1", |draft, random| draft.wide_test(random, |node| node[16] == 1, 24, 1)),
+        field("byte 27 with form 1", |draft, random| draft.wide_test(random, |node| node[16] == 1, 27, 128)),
+        // The number's lower four bytes stay; those above put it out of range.
+        field("byte 26 of a number", |draft, random| draft.wide_test(random, |node| node[16] == 2, 26, 64)),
+        field("byte 27 of a number", |draft, random| draft.wide_test(random, |node| node[16] == 2, 27, 127)),
     ]
 }
 
 /// Refusal 10.
 fn tree_faults() -> Vec<Fault> {
     let tree = |name, apply| change(10, name, Stage::Nodes, apply);
-    fn put(draft: &mut Draft, place: usize, node: [u8; NODE]) -> Option<()> {
+    fn put(draft: &mut Draft, place: usize, node: Vec<u8>) -> Option<()> {
         (draft.nodes.len() < 64).then(|| draft.nodes.insert(place, node))
     }
-    fn replace(draft: &mut Draft, kinds: &[u8], with: [u8; NODE]) -> Option<()> {
+    fn put_last(draft: &mut Draft, node: Vec<u8>) -> Option<()> {
+        put(draft, draft.nodes.len(), node)
+    }
+    fn replace(draft: &mut Draft, kinds: &[u8], with: u8) -> Option<()> {
+        let with = draft.of_kind(with);
         let node = draft.nodes.iter_mut().find(|node| kinds.contains(&node[0]))?;
         *node = with;
         Some(())
     }
-    fn of_kind(kind: u8) -> [u8; NODE] {
-        let mut node = [0; NODE];
-        node[0] = kind;
-        node
-    }
     vec![
-        tree("a Unit left over", |draft, _| put(draft, draft.nodes.len(), [0; NODE])),
-        tree("the last node twice", |draft, _| put(draft, draft.nodes.len(), draft.nodes[draft.nodes.len() - 1])),
-        tree("a Select left over", |draft, _| put(draft, draft.nodes.len(), of_kind(2))),
-        tree("a Unit in front", |draft, _| put(draft, 0, [0; NODE])),
+        tree("a Unit left over", |draft, _| put_last(draft, draft.of_kind(0))),
+        tree("the last node twice", |draft, _| put_last(draft, draft.nodes[draft.nodes.len() - 1].clone())),
+        tree("a Select left over", |draft, _| put_last(draft, draft.of_kind(2))),
+        tree("a Unit in front", |draft, _| put(draft, 0, draft.of_kind(0))),
         tree("the last node missing", |draft, _| {
             if draft.nodes.len() < 2 {
                 return None;
             }
             draft.nodes.pop().map(|_| ())
         }),
-        tree("a Cross in front without a second child", |draft, _| put(draft, 0, of_kind(5))),
-        tree("an Each in front without an inner plan", |draft, _| put(draft, 0, of_kind(11))),
-        tree("a Some in front without an inner plan", |draft, _| put(draft, 0, of_kind(8))),
-        tree("a leaf made a Select", |draft, _| replace(draft, &[0, 1], of_kind(2))),
-        tree("a leaf made an Every", |draft, _| replace(draft, &[0, 1], of_kind(9))),
-        tree("a Select made a Unit", |draft, _| replace(draft, &[2], [0; NODE])),
-        tree("a Select made a Cross", |draft, _| replace(draft, &[2], of_kind(5))),
-        tree("a kind with two children made a Select", |draft, _| replace(draft, &[5, 8, 9, 11], of_kind(2))),
-        alone(tree("one Select", |draft, _| draft.only_nodes(vec![of_kind(2)]))),
-        alone(tree("two Units", |draft, _| draft.only_nodes(vec![[0; NODE]; 2]))),
-        alone(tree("64 Selects", |draft, _| draft.only_nodes(vec![of_kind(2); 64]))),
-        alone(tree("a Cross and a Unit", |draft, _| draft.only_nodes(vec![of_kind(5), of_kind(0)]))),
+        tree("a Cross in front without a second child", |draft, _| put(draft, 0, draft.of_kind(5))),
+        tree("an Each in front without an inner plan", |draft, _| put(draft, 0, draft.of_kind(11))),
+        tree("a Some in front without an inner plan", |draft, _| put(draft, 0, draft.of_kind(8))),
+        tree("a leaf made a Select", |draft, _| replace(draft, &[0, 1], 2)),
+        tree("a leaf made an Every", |draft, _| replace(draft, &[0, 1], 9)),
+        tree("a Select made a Unit", |draft, _| replace(draft, &[2], 0)),
+        tree("a Select made a Cross", |draft, _| replace(draft, &[2], 5)),
+        tree("a kind with two children made a Select", |draft, _| replace(draft, &[5, 8, 9, 11], 2)),
+        alone(tree("one Select", |draft, _| draft.only_nodes(vec![draft.of_kind(2)]))),
+        alone(tree("two Units", |draft, _| draft.only_nodes(vec![draft.of_kind(0); 2]))),
+        alone(tree("64 Selects", |draft, _| draft.only_nodes(vec![draft.of_kind(2); 64]))),
+        alone(tree("a Cross and a Unit", |draft, _| draft.only_nodes(vec![draft.of_kind(5), draft.of_kind(0)]))),
     ]
 }
 
@@ -278,7 +321,7 @@ fn table_number_faults() -> Vec<Fault> {
         })),
         alone(change(11, "table 0 of none", Stage::Set, |draft, _| {
             draft.parts.clear();
-            draft.bytes = write_plan(&scan(0, 0));
+            draft.bytes = write_plan_in(&draft.version, &scan(0, 0));
             Some(())
         })),
     ]
@@ -599,11 +642,13 @@ fn bound_faults() -> Vec<Fault> {
     ]
 }
 
-/// Sets with two faults in tables of their own or in one table, each with the number that decides.
+/// Sets of version 2 with two faults in tables of their own or in one table, each with the number that decides.
 pub fn set_pairs() -> Vec<(&'static str, u8, Vec<u8>)> {
-    let good = write_table(&sized(2, 2));
-    let bad_cell = write_table(&one_column(&[2_000_000_001]));
-    let header = |mark: &[u8], columns: u8, rows: u16| [mark, b"\x01\x00", &[columns], &rows.to_le_bytes()].concat();
+    let written = |table: &Table| write_table(&VERSION_2, table);
+    let good = written(&sized(2, 2));
+    let bad_cell = written(&one_column(&[VERSION_2.largest + 1]));
+    let old = write_table(&VERSION_1, &one_column(&[VERSION_1.largest + 1]));
+    let header = |mark: &[u8; 3], columns: u8, rows: u16| header(&VERSION_2, mark, columns, rows);
     let eight = vec![good.clone(); 8].concat();
     let mut seven_and_bad = vec![good.clone(); 7].concat();
     seven_and_bad.extend(&bad_cell);
@@ -618,6 +663,10 @@ pub fn set_pairs() -> Vec<(&'static str, u8, Vec<u8>)> {
         ("3 before 4: no columns, bad cell", 3, [&header(b"TBL", 0, 1)[..], &bad_cell[8..]].concat()),
         ("1 before 4: bad cell, cells short", 1, [&header(b"TBL", 1, 2)[..], &bad_cell[8..]].concat()),
         ("1 before 4: bad cell, half a cell more", 1, [&header(b"TBL", 1, 2)[..], &bad_cell[8..], &[0, 0]].concat()),
+        ("2 before 4: version 1, bad cell of version 1", 2, old.clone()),
+        ("first table: 4, then one of version 1", 4, [&bad_cell[..], &old].concat()),
+        ("first table: version 1, then a bad cell", 2, [&old[..], &bad_cell].concat()),
+        ("5 before 2: eight tables, then one of version 1", 5, [&eight[..], &old].concat()),
         ("first table: 4, then a wrong mark", 4, [&bad_cell[..], &header(b"TBX", 1, 0)].concat()),
         ("first table: 4, then a short header", 4, [&bad_cell[..], b"TB"].concat()),
         ("first table: 4, then 17 columns", 4, [&bad_cell[..], &header(b"TBL", 17, 0)].concat()),

@@ -6,7 +6,6 @@ use Rattle.reporting_cases.proofs.show_row.Reads as reads
 use Rattle.reporting_cases.proofs.show_row.Lts as lts
 use Rattle.reporting_cases.proofs.number.Reads as number-reads
 use Rattle.reporting_cases.proofs.text.Reads as text-reads
-use Rattle.reporting_cases.proofs.wide.Reads as wide-reads
 
 abbrev Inv-loop : tie.InvT-loop
 Inv-loop cells at columns next₀ j₀ t6 next j = Unit {0}
@@ -31,16 +30,12 @@ text-requires : tie.Need-text-requires Inv-loop μ-loop
 text-requires c κs = search needs
 
 -- src/main.rt:42:21
-mul-wide : tie.Need-mul-wide Inv-loop μ-loop
-mul-wide c = search needs
+mul-number : tie.Need-mul-number Inv-loop μ-loop
+mul-number c = search needs
 
 -- src/main.rt:42:21
-shared-slice-read-wide : tie.Need-shared-slice-read-wide Inv-loop μ-loop
-shared-slice-read-wide c = search needs
-
--- src/main.rt:42:16
-wide-requires : tie.Need-wide-requires Inv-loop μ-loop
-wide-requires c κs = search needs
+shared-slice-read-number : tie.Need-shared-slice-read-number Inv-loop μ-loop
+shared-slice-read-number c = search needs
 
 -- src/main.rt:42:9
 number-requires : tie.Need-number-requires Inv-loop μ-loop
@@ -76,9 +71,8 @@ show-row-spec =
     returns
     slice-aggregate-text
     text-requires
-    mul-wide
-    shared-slice-read-wide
-    wide-requires
+    mul-number
+    shared-slice-read-number
     number-requires
     add-next
     add-j

@@ -16,6 +16,9 @@ use Rattle.reading.proofs.set.four_bytes.Reads as four-bytes-reads
 four-bytes-requires : tie.Need-four-bytes-requires
 four-bytes-requires c κs = search needs
 
+cast-x : tie.Need-cast-x
+cast-x c = search needs
+
 -- src/set.rt:49:9
 returns : tie.Need-returns
 returns c =
@@ -59,4 +62,4 @@ returns-4 c =
 pub word-of-four-spec : {M : Type 1} → statement M
 word-of-four-spec =
     tie.close
-    (tie.spec four-bytes-requires returns returns-2 add-result add-result-2 returns-3 returns-4)
+    (tie.spec four-bytes-requires cast-x returns returns-2 add-result add-result-2 returns-3 returns-4)

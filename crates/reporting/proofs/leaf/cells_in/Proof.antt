@@ -8,8 +8,8 @@ use Rattle.reporting.proofs.leaf.cells_in.Statement.{statement}
 use Rattle.reporting.proofs.leaf.cells_in.Tie as tie
 
 -- what is copied is the smaller of n and what the table has
-few : (c : tie.Joined1) → (c .if1 .whole ≤ c .before .before .before .args .n) × (c .if1 .whole ≤ length (c .before .before .before .args .from .now) / 4)
-    × ((j : ℕ) → c .if1 .whole ≤ j → j < c .before .before .before .args .n → length (c .before .before .before .args .from .now) / 4 ≤ j)
+few : (c : tie.Joined1) → (c .if1 .whole ≤ c .before .before .before .args .n) × (c .if1 .whole ≤ length (c .before .before .before .args .from .now) / 8)
+    × ((j : ℕ) → c .if1 .whole ≤ j → j < c .before .before .before .args .n → length (c .before .before .before .args .from .now) / 8 ≤ j)
 few c =
     ⊎-elim
     (λ e. (omega arith, omega arith, λ j a b. omega arith))

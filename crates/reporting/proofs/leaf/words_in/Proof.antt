@@ -1,10 +1,11 @@
-use Prim.Native.Nat.{_-_, _≤_}
+use Prim.Native.Nat.{_*_, _-_, _≤_}
 use native.Mathlib.Omega.{arith}
-use mathlib.Core.Path.{_≡_, refl, _∙_}
+use mathlib.Core.Path.{_≡_, refl, ap, _∙_}
 use mathlib.Core.List.{map}
 use lib.ListN.{length, take, length-set}
 use Rattle.algebra.specs.Lists.{upward}
-use Rattle.reading.specs.TableSet.{cellAt}
+use Rattle.reading.specs.TableSet.{wordOf, cellAt}
+use Rattle.reading.proofs.NumberBytes.{unsigned-eight}
 use Rattle.reporting.proofs.TableRows.{next-cell, cell-word}
 use Rattle.reporting.proofs.leaf.words_in.Statement.{statement}
 use Rattle.reporting.proofs.leaf.words_in.Tie as tie
@@ -51,6 +52,38 @@ add-word-3 c = omega arith
 shared-slice-read-word-4 : tie.Need-shared-slice-read-word-4 Inv-loop μ-loop
 shared-slice-read-word-4 c = omega arith
 
+-- src/leaf.rt
+add-word-4 : tie.Need-add-word-4 Inv-loop μ-loop
+add-word-4 c = omega arith
+
+-- src/leaf.rt
+shared-slice-read-word-5 : tie.Need-shared-slice-read-word-5 Inv-loop μ-loop
+shared-slice-read-word-5 c = omega arith
+
+-- src/leaf.rt
+add-word-5 : tie.Need-add-word-5 Inv-loop μ-loop
+add-word-5 c = omega arith
+
+-- src/leaf.rt
+shared-slice-read-word-6 : tie.Need-shared-slice-read-word-6 Inv-loop μ-loop
+shared-slice-read-word-6 c = omega arith
+
+-- src/leaf.rt
+add-word-6 : tie.Need-add-word-6 Inv-loop μ-loop
+add-word-6 c = omega arith
+
+-- src/leaf.rt
+shared-slice-read-word-7 : tie.Need-shared-slice-read-word-7 Inv-loop μ-loop
+shared-slice-read-word-7 c = omega arith
+
+-- src/leaf.rt
+add-word-7 : tie.Need-add-word-7 Inv-loop μ-loop
+add-word-7 c = omega arith
+
+-- src/leaf.rt
+shared-slice-read-word-8 : tie.Need-shared-slice-read-word-8 Inv-loop μ-loop
+shared-slice-read-word-8 c = omega arith
+
 -- src/leaf.rt:26:20
 word-requires : tie.Need-word-requires Inv-loop μ-loop
 word-requires c κs = tt
@@ -74,9 +107,9 @@ loop-less c = omega arith
 -- src/leaf.rt:24:5
 loop-again : tie.Need-loop-again Inv-loop μ-loop
 loop-again c =
-    let l = c .before .before .before .before .before .before .loop in
-    let from = c .before .before .before .before .before .before .before .before .before .args .from .now in
-    (omega arith, simp length-set (l .inv .1), rw (c .word .ensures ∙ cell-word from (l .i) (omega arith)) (next-cell (cellAt from) (l .cells) (l .i) (l .inv .2) (omega arith)))
+    let l = c .before .before .before .before .before .before .before .before .before .before .loop in
+    let from = c .before .before .before .before .before .before .before .before .before .before .before .before .before .args .from .now in
+    (omega arith, simp length-set (l .inv .1), rw (c .word .ensures ∙ ap wordOf (unsigned-eight from (8 * l .i)) ∙ cell-word from (l .i) (omega arith)) (next-cell (cellAt from) (l .cells) (l .i) (l .inv .2) (omega arith)))
 
 -- src/leaf.rt:19:1
 same-length : tie.Need-same-length Inv-loop μ-loop
@@ -104,6 +137,14 @@ words-in-spec =
     shared-slice-read-word-3
     add-word-3
     shared-slice-read-word-4
+    add-word-4
+    shared-slice-read-word-5
+    add-word-5
+    shared-slice-read-word-6
+    add-word-6
+    shared-slice-read-word-7
+    add-word-7
+    shared-slice-read-word-8
     word-requires
     mul-cells
     slice-write-cells

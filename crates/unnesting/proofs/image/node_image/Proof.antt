@@ -72,6 +72,38 @@ array-read-t47 c = search needs
 array-read-t50 : tie.Need-array-read-t50
 array-read-t50 c = search needs
 
+-- src/image.rt
+array-read-t53 : tie.Need-array-read-t53
+array-read-t53 c = search needs
+
+-- src/image.rt
+array-read-t56 : tie.Need-array-read-t56
+array-read-t56 c = search needs
+
+-- src/image.rt
+array-read-t59 : tie.Need-array-read-t59
+array-read-t59 c = search needs
+
+-- src/image.rt
+array-read-t62 : tie.Need-array-read-t62
+array-read-t62 c = search needs
+
+-- src/image.rt
+array-read-t65 : tie.Need-array-read-t65
+array-read-t65 c = search needs
+
+-- src/image.rt
+array-read-t68 : tie.Need-array-read-t68
+array-read-t68 c = search needs
+
+-- src/image.rt
+array-read-t71 : tie.Need-array-read-t71
+array-read-t71 c = search needs
+
+-- src/image.rt
+array-read-t74 : tie.Need-array-read-t74
+array-read-t74 c = search needs
+
 -- src/image.rt:54:1
 returns : tie.Need-returns
 returns c =
@@ -99,4 +131,12 @@ node-image-spec =
     array-read-t44
     array-read-t47
     array-read-t50
+    array-read-t53
+    array-read-t56
+    array-read-t59
+    array-read-t62
+    array-read-t65
+    array-read-t68
+    array-read-t71
+    array-read-t74
     returns)

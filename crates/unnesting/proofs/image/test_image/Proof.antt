@@ -42,6 +42,22 @@ array-read-t21 c = search needs
 array-read-t24 : tie.Need-array-read-t24
 array-read-t24 c = search needs
 
+-- src/image.rt
+array-read-t27 : tie.Need-array-read-t27
+array-read-t27 c = search needs
+
+-- src/image.rt
+array-read-t30 : tie.Need-array-read-t30
+array-read-t30 c = search needs
+
+-- src/image.rt
+array-read-t33 : tie.Need-array-read-t33
+array-read-t33 c = search needs
+
+-- src/image.rt
+array-read-t36 : tie.Need-array-read-t36
+array-read-t36 c = search needs
+
 -- src/image.rt:31:1
 returns : tie.Need-returns
 returns c = rw (c .enum-told .given .1, c .before .before .mark-byte .ensures)
@@ -67,6 +83,10 @@ test-image-spec =
     array-read-t18
     array-read-t21
     array-read-t24
+    array-read-t27
+    array-read-t30
+    array-read-t33
+    array-read-t36
     returns
     returns-2
     returns-3)
