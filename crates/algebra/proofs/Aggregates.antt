@@ -20,7 +20,7 @@ module _ (p : ℕ → Bool) (x : ℕ) (fails : p x ≡ false) where
   filter-without (y ∷ xs) ys = ap (λ (l : List ℕ). cond (p y) (y ∷ l) l) (filter-without xs ys)
 
 -- where no element passes none is taken out
-filter-all : (p : ℕ → Bool) (xs : List ℕ) → any p xs ≡ false → filter (λ x. not (p x)) xs ≡ xs
+pub filter-all : (p : ℕ → Bool) (xs : List ℕ) → any p xs ≡ false → filter (λ x. not (p x)) xs ≡ xs
 filter-all p [] h = refl
 filter-all p (x ∷ xs) h =
     (elim (p x) as (λ b. (b || any p xs) ≡ false → cond (not b) (x ∷ filter (λ y. not (p y)) xs) (filter (λ y. not (p y)) xs) ≡ x ∷ xs) [

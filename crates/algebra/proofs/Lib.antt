@@ -15,3 +15,4 @@ pub mod Readings
 pub mod Fine
 pub mod Steps
 pub mod StayNotes
+pub mod Conversion

@@ -8,3 +8,4 @@ pub mod Rules
 pub mod Steps
 pub mod StayNotes
 pub mod Demand3
+pub mod Conversion
