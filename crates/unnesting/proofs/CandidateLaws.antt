@@ -23,8 +23,8 @@ use Rattle.algebra.proofs.Steps.{modify-past}
 use Rattle.reading.specs.TableSet.{tablesOf}
 use Rattle.reading.specs.Plan.{planMark, nodesOf}
 use Rattle.reading.specs.Tree.{planAt, planOf, wholeTree}
-use Rattle.reading.specs.Encoding.{testBytes, noTest, listBytes, fieldBytes, nodeBytes, planBytes}
-use Rattle.reading.specs.Check.{inputRefusal, checkOf}
+use Rattle.reading.specs.Encoding.{testBytes, noTest, listBytes, fieldBytes, nodeBytes, nodeBytesAs, planBytes, planBytesAs}
+use Rattle.reading.specs.Check.{inputRefusal, checkOf, checkAs}
 use Rattle.reading.specs.declared.input.Checked.the-variants.{Accepted, Refused as InputRefused}
 use Rattle.reading.proofs.Places.{whole-size, flatMap-joined}
 use Rattle.reading.proofs.PlanBytes.{PlanKnown, plan-passed, bytes-plan, passes-accepted}
@@ -48,7 +48,7 @@ pub record CandidateChecked (set : List ℕ) (q : Plan) : Type 0 where
   pub refused : inputRefusal set (planBytes q) ≢ 0 → passes (tablesOf set) q ≡ false
 
 pub candidate-checked : (set plan : List ℕ) (q : Plan) → inputRefusal set plan ≡ 0 → Written q → CandidateChecked set q
-unfolding planBytes passes
+unfolding planBytesAs passes
 candidate-checked set plan q e h =
     let accepts : passes (tablesOf set) q ≡ true → inputRefusal set (planBytes q) ≡ 0 = λ g. input-from set (planBytes q) (input-parts set plan e .0) (passes-accepted set q g .0) in
     record {
@@ -80,7 +80,7 @@ parts-long list tail h g = omega (arith, length-append list tail)
 
 -- a node has 32 bytes, also where its fields cannot be written
 node-long : (op : Operator) → length (nodeBytes op) ≡ 32
-unfolding nodeBytes
+unfolding nodeBytesAs
 node-long (leafNode unit) = refl
 node-long (leafNode (scan t n)) = refl
 node-long (unaryNode (select t)) = parts-long (listBytes []) (testBytes t) refl (test-bytes-long t)
@@ -151,7 +151,7 @@ module _ (T : Tables) (c : Option ℕ) (plan : List ℕ) (i : ℕ) (change : Cha
       ∙ (joined ∙ ap (λ (r : List ℕ). image (change .first) ++ (kept ++ (moreBytes change ++ r))) (slice-join plan (change .from) end (nodesOf plan) (m .before) inside)))))
 
   after-bytes : length (changedBytes plan i change) ≡ 32 * changedCount plan i change → planMark ++ (changedCount plan i change ∷ changedBytes plan i change) ≡ planBytes planAfter
-  unfolding planBytes
+  unfolding planBytesAs
   after-bytes long =
       let n : 32 * size planAfter ≡ 32 * changedCount plan i change =
       ap (λ (k : ℕ). 32 * k) (sym (flatten-length planAfter)) ∙ (sym (nodes-long (flatten planAfter)) ∙ (ap length after-nodes ∙ long)) in
@@ -275,7 +275,7 @@ module _ (set plan : List ℕ) (i : ℕ) (change : Change) (input : inputRefusal
     written-candidate = candidate set plan i change input tree made (written-long buffer (changedBytes plan i change) long (changedCount plan i change) (omega (arith, written-fits)) ends written)
 
     pub tried-no : (number : ℕ) → checkOf set (take long buffer) ≡ InputRefused number → possible (tablesOf set) (planOf plan) i ≡ none
-    unfolding checkOf
+    unfolding checkAs
     tried-no number e =
         let c = written-candidate in
         let b : take long buffer ≡ planBytes (c .after) = written ∙ c .bytes in
