@@ -17,6 +17,7 @@ use Rattle.reading.specs.declared.plan.Test.{Test}
 use Rattle.reading.specs.declared.plan.Test.the-variants.{Always, Columns, Number}
 use Rattle.reading.specs.declared.plan.Node.{Node}
 use Rattle.reading.proofs.FieldBytes.{comparison-byte, aggregate-bytes}
+use Rattle.reading.specs.declared.version.Version.the-variants.{Second}
 use Rattle.unnesting.specs.Images.{testImage, image, plainNode, projectNode, testComparison, bytesWritten}
 
 -- ---- bytes, one by one
@@ -103,7 +104,7 @@ image-made node t h g e =
 -- ---- the nodes that the rules make
 
 -- a test's bytes, where its comparison is one
-pub test-image : (m : Bool) (t : Test) → leb (testComparison t) 5 ≡ true → testImage m t ≡ testBytes (test m (formOf t))
+pub test-image : (m : Bool) (t : Test) → leb (testComparison t) 5 ≡ true → testImage m t ≡ testBytes Second (test m (formOf t))
 test-image m Always h = refl
 test-image m (Columns c l r) h = ap (λ (x : ℕ). 1 ∷ x ∷ markByte m ∷ l ∷ r ∷ replicate 11 0) (sym (comparison-byte c h))
 test-image m (Number c l w) h = rw (comparison-byte c h)
