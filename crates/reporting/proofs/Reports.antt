@@ -18,7 +18,7 @@ use Rattle.algebra.proofs.Refusals.{Unrefused, refusal-none, all-root, low-rows
 use Rattle.algebra.proofs.Needs.{extent, rows-within}
 use Rattle.reading.specs.TableSet.{tablesOf, readSet}
 use Rattle.reading.specs.Tree.{planOf, wholeTree}
-use Rattle.reading.specs.Check.{orNext, setNumber, planRefusal, inputRefusal, answer, checkOf}
+use Rattle.reading.specs.Check.{orNext, setNumber, planRefusal, inputRefusal, inputRefusalAs, answer, checkOf, checkAs}
 use Rattle.reading.specs.declared.input.Checked.the-variants.{Accepted, Refused}
 use Rattle.reading.proofs.PlanBytes.{plan-passed}
 use Rattle.reporting.specs.Rows.{chunk, envOf, Gives}
@@ -43,7 +43,7 @@ or-next (suc a) b e = absurd (omega arith)
 
 pub accepted-input : (set plan : List ℕ) (tables nodes cells : ℕ) → checkOf set plan ≡ Accepted tables nodes cells
     → (inputRefusal set plan ≡ 0) × (cells ≡ need (tablesOf set) (planOf plan))
-unfolding checkOf
+unfolding checkAs
 accepted-input set plan tables nodes cells e = answer-accepted (inputRefusal set plan) _ _ _ tables nodes cells e
 
 -- ---- the call's number
@@ -90,7 +90,7 @@ module _ (set plan : List ℕ) (out : List ℤ) (scratch : List ℕ) (r : Report
 
   -- 1 to 14
   pub turned-back : (number : ℕ) → checkOf set plan ≡ Refused number → RefusedBy number → Reported set plan out out scratch scratch r
-  unfolding checkOf
+  unfolding checkAs
   turned-back number e k =
       let (f, p) = answer-refused (inputRefusal set plan) _ _ _ number e in
       let q : 0 < number = omega arith in
@@ -124,11 +124,11 @@ cleared-after set plan out out′ scratch scratch′ n r e c h = record {
 
 -- ---- what the evaluator is given
 unrefused : (set plan : List ℕ) → inputRefusal set plan ≡ 0 → Unrefused (tablesOf set) (planOf plan)
-unfolding inputRefusal
+unfolding inputRefusalAs
 unrefused set plan a = refusal-none (tablesOf set) (planOf plan) (plan-passed set plan (or-next (setNumber (readSet set)) (planRefusal set plan) a .1) .unrefused)
 
 pub whole-input : (set plan : List ℕ) → inputRefusal set plan ≡ 0 → wholeTree plan ≡ true
-unfolding inputRefusal
+unfolding inputRefusalAs
 whole-input set plan a = plan-passed set plan (or-next (setNumber (readSet set)) (planRefusal set plan) a .1) .whole
 
 -- the need has 4,096 cells more than the plan's part

@@ -23,7 +23,7 @@ use Rattle.reading.specs.TableSet.{tablesOf}
 use Rattle.reading.specs.Plan.{nodesOf}
 use Rattle.reading.specs.Tree.{planAt, planOf, wholeTree}
 use Rattle.reading.specs.Nodes.{arity}
-use Rattle.reading.specs.Check.{orNext, inputRefusal, checkOf}
+use Rattle.reading.specs.Check.{orNext, inputRefusal, checkOf, checkAs}
 use Rattle.reading.specs.declared.input.Checked.the-variants.{Refused}
 use Rattle.reading.proofs.Trees.{plan-past, plan-case, firstTree, secondTree}
 use Rattle.reading.proofs.Places.{whole-size}
@@ -175,7 +175,7 @@ module _ (set plan scratch : List ℕ) where
   turned-by (suc z) number e n h = (rw e (sym n), rw e)
 
   pub turned-input : (number : ℕ) → checkOf set plan ≡ Refused number → Turned number scratch
-  unfolding checkOf
+  unfolding checkAs
   turned-input number e = let (f, p) = answer-refused (inputRefusal set plan) _ _ _ number e in turned-by (inputRefusal set plan) number refl f p
 
   module _ (a : inputRefusal set plan ≡ 0) where

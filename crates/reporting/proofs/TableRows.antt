@@ -11,9 +11,12 @@ use lib.Seq.{take-at, drop-at, take-take, take-nil, take-add, take-suc-set}
 use Rattle.algebra.specs.Lists.{upward}
 use Rattle.algebra.specs.Plans.{Row}
 use Rattle.reading.specs.Bytes.{unsignedAt}
-use Rattle.reading.specs.TableSet.{columnsOf, rowsOf, cellsOf, wordOf, cellAt, tableFrom, tableRows, tablesOf}
+use Rattle.reading.specs.Versions.{wordOf}
+use Rattle.reading.specs.TableSet.{tableVersion, columnsOf, rowsOf, cellsOf, cellAt, tableFrom, tableRows, tablesOf}
 use Rattle.reading.specs.Tree.{operatorBy, operatorOf}
 use Rattle.reading.specs.declared.plan.Node.{Node}
+use Rattle.reading.specs.declared.version.Version.{Version}
+use Rattle.reading.specs.declared.version.Version.the-variants.{Second}
 use Rattle.reading.proofs.BoundLaws.{length-rows}
 use Rattle.reading.proofs.Operators.{by-kind, kind-above}
 use Rattle.reading.proofs.Places.{upward-append, upward-more, upward-length}
@@ -37,21 +40,21 @@ next-cell f cells i e h =
     ∙ sym (ap (map f) (upward-more i 0) ∙ map-append f (upward i 0) ((0 + i) ∷ []) ∙ rw z)
 
 -- a cell that the table has is the word of its bytes
-pub cell-word : (from : List ℕ) (i : ℕ) → i < length from / 8 → wordOf (unsignedAt 8 from (8 * i)) ≡ cellAt from i
+pub cell-word : (from : List ℕ) (i : ℕ) → i < length from / 8 → wordOf Second (unsignedAt 8 from (8 * i)) ≡ cellAt Second from i
 cell-word from i h = simp (lt-ltb _ _ h)
 
 -- past the table's last cell every cell is blank
-blank-cells : (from : List ℕ) (n k : ℕ) → ((j : ℕ) → k ≤ j → j < k + n → length from / 8 ≤ j) → replicate n 0 ≡ map (cellAt from) (upward n k)
+blank-cells : (from : List ℕ) (n k : ℕ) → ((j : ℕ) → k ≤ j → j < k + n → length from / 8 ≤ j) → replicate n 0 ≡ map (cellAt Second from) (upward n k)
 blank-cells from zero k h = refl
 blank-cells from (suc n) k h =
-    let e : 0 ≡ cellAt from k = simp (le-ltb _ _ (h k (omega arith) (omega arith))) in
+    let e : 0 ≡ cellAt Second from k = simp (le-ltb _ _ (h k (omega arith) (omega arith))) in
     ap₂ (λ (x : ℕ) (l : List ℕ). x ∷ l) e (blank-cells from n (suc k) (λ j a b. h j (omega arith) (omega arith)))
 
 -- the first k cells were written to the front, and then blanks up to n
-pub cells-blanks : (from c d : List ℕ) (k n : ℕ) → take k c ≡ map (cellAt from) (upward k 0) → Written k (n - k) (replicate (n - k) 0) c d → k ≤ n
-    → ((j : ℕ) → k ≤ j → j < n → length from / 8 ≤ j) → take n d ≡ map (cellAt from) (upward n 0)
+pub cells-blanks : (from c d : List ℕ) (k n : ℕ) → take k c ≡ map (cellAt Second from) (upward k 0) → Written k (n - k) (replicate (n - k) 0) c d → k ≤ n
+    → ((j : ℕ) → k ≤ j → j < n → length from / 8 ≤ j) → take n d ≡ map (cellAt Second from) (upward n 0)
 cells-blanks from c d k n e p h past =
-    let f : ℕ → ℕ = cellAt from in
+    let f : ℕ → ℕ = cellAt Second from in
     let sum : k + (n - k) ≡ n = omega arith in
     let z : 0 + k ≡ k = omega arith in
     let front : take k d ≡ map f (upward k 0) = p .before ∙ e in
@@ -83,17 +86,17 @@ module _ (f : ℕ → ℕ) (w : ℕ) where
       let rest : take (k * w) (drop w cells) ≡ map f (upward (k * w) (w * suc r)) = sym (behind w (k * w) cells) ∙ ap (drop w) both ∙ drop-at front _ w long ∙ ap (λ (n : ℕ). map f (upward (k * w) n)) (sym (mul-suc w r)) in
       ap₂ (λ (x : Row) (l : List Row). x ∷ l) first (rows-upward k (suc r) (drop w cells) rest)
 
-pub table-rows : (table cells : List ℕ) → take (rowsOf table * columnsOf table) cells ≡ map (cellAt (cellsOf table)) (upward (rowsOf table * columnsOf table) 0)
+pub table-rows : (table cells : List ℕ) → take (rowsOf table * columnsOf table) cells ≡ map (cellAt (tableVersion table) (cellsOf table)) (upward (rowsOf table * columnsOf table) 0)
     → chunk (rowsOf table) (columnsOf table) cells ≡ tableRows table
 unfolding tableRows
 table-rows table cells e =
-    rows-upward (cellAt (cellsOf table)) (columnsOf table) (rowsOf table) 0 cells (rw (mul-zero (columnsOf table)) e)
+    rows-upward (cellAt (tableVersion table) (cellsOf table)) (columnsOf table) (rowsOf table) 0 cells (rw (mul-zero (columnsOf table)) e)
 
 -- the cells of a table that were written to the front are its rows
-pub table-gives : (table cells from : List ℕ) (r n : ℕ) → r ≡ rowsOf table → n ≡ rowsOf table * columnsOf table → from ≡ cellsOf table
-    → take n cells ≡ map (cellAt from) (upward n 0) → Gives (tableRows table) (columnsOf table) (rowsOf table) r cells
-table-gives table cells from r n e m f t = record {
-  is = ap (λ (k : ℕ). chunk k (columnsOf table) cells) e ∙ table-rows table cells (rw (← m, ← f) t);
+pub table-gives : (table cells from : List ℕ) (v : Version) (r n : ℕ) → v ≡ tableVersion table → r ≡ rowsOf table → n ≡ rowsOf table * columnsOf table → from ≡ cellsOf table
+    → take n cells ≡ map (cellAt v from) (upward n 0) → Gives (tableRows table) (columnsOf table) (rowsOf table) r cells
+table-gives table cells from v r n o e m f t = record {
+  is = ap (λ (k : ℕ). chunk k (columnsOf table) cells) e ∙ table-rows table cells (rw (← o, ← m, ← f) t);
   few = omega arith;
 }
 

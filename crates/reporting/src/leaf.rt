@@ -6,19 +6,23 @@ ghost use lib.ListN.{length, take};
 ghost use Rattle.algebra.specs.Lists.{upward};
 ghost use Rattle.reading.specs.TableSet.{columnsOf, rowsOf, cellAt, tableFrom, tablesOf};
 ghost use Rattle.reading.specs.Tree.{operatorOf};
+ghost use Rattle.reading.specs.declared.version.Version.the-variants.{First, Second};
 ghost use Rattle.reporting.specs.Evaluation.{leafWidth, leafMost, TableGiven, LeafGiven};
 use crate::emit::blanks;
 use reading::plan::Node;
+use reading::set::cell;
 use reading::set::columns_of;
 use reading::set::rows_of;
 use reading::set::table_cells;
 use reading::set::table_from;
 use reading::set::word;
+use reading::version::Version;
+use reading::version::version_at;
 
 // Writes the first n cells of a table to the front, where the table has that many.
 fn words_in(cells: &mut [u64], from: &[u8], n: usize)
     requires { ⌜ (n ≤ length (now cells)) × (n ≤ length (now from) / 8) ⌝ }
-    ensures { λ _. ⌜ take n (now (cells .exit)) ≡ map (cellAt (now (from .entry))) (upward n 0) ⌝ }
+    ensures { λ _. ⌜ take n (now (cells .exit)) ≡ map (cellAt Second (now (from .entry))) (upward n 0) ⌝ }
 {
     let mut i = 0;
     while i < n {
@@ -40,7 +44,7 @@ fn words_in(cells: &mut [u64], from: &[u8], n: usize)
 // Writes the first n cells of a table to the front. Past the last cell they are blank; no table of a set that was accepted comes to that.
 fn cells_in(cells: &mut [u64], from: &[u8], n: usize)
     requires { ⌜ n ≤ length (now cells) ⌝ }
-    ensures { λ _. ⌜ take n (now (cells .exit)) ≡ map (cellAt (now (from .entry))) (upward n 0) ⌝ }
+    ensures { λ _. ⌜ take n (now (cells .exit)) ≡ map (cellAt Second (now (from .entry))) (upward n 0) ⌝ }
 {
     let mut whole = from.len() / 8;
     if n < whole {
@@ -48,6 +52,18 @@ fn cells_in(cells: &mut [u64], from: &[u8], n: usize)
     }
     words_in(cells, from, whole);
     blanks(cells, whole, n - whole);
+}
+
+// The same of a table of version 1. No call comes to it, as each takes version 2 alone; but the rows of a table are those of its version.
+fn first_cells_in(cells: &mut [u64], from: &[u8], n: usize)
+    requires { ⌜ n ≤ length (now cells) ⌝ }
+    ensures { λ _. ⌜ take n (now (cells .exit)) ≡ map (cellAt First (now (from .entry))) (upward n 0) ⌝ }
+{
+    let mut i = 0;
+    while i < n {
+        cells[i] = cell(Version::First, from, i);
+        i += 1;
+    }
 }
 
 // The rows of table t, at the front.
@@ -58,7 +74,10 @@ fn scan(set: &[u8], t: usize, cells: &mut [u64]) -> usize
     let table = table_from(set, t);
     let rows = rows_of(table);
     let n = rows * columns_of(table);
-    cells_in(cells, table_cells(set, t), n);
+    match version_at(table) {
+        Version::First => first_cells_in(cells, table_cells(set, t), n),
+        Version::Second => cells_in(cells, table_cells(set, t), n),
+    }
     rows
 }
 

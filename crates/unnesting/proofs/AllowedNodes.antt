@@ -1,12 +1,12 @@
 -- What the fields of an accepted plan's nodes keep to, so that nodes made of them can be written. Assumes nothing.
 use Prim.Native.Nat.{ℕ, zero, suc, _+_, _*_, _≤_, _<_}
 use native.Mathlib.Omega.{arith}
-use mathlib.Core.Path.{_≡_, refl}
+use mathlib.Core.Path.{_≡_, refl, sym, ap, subst, _∙_}
 use mathlib.Core.Bool.{Bool, true, false, not, _&&_, _||_}
 use mathlib.Core.List.{List}
 use mathlib.Core.Logic.{_⊎_, inl, inr}
 use lib.Dec.{eqb, leb, ltb}
-use lib.ListN.{length, drop, List·getD-eq-default}
+use lib.ListN.{length, take, drop, List·getD-eq-default}
 use lib.Seq.{getD-drop}
 use borrow.Author.Tests.{le-leb, leb-true, ltb-true}
 use Rattle.algebra.specs.Lists.{if_then_else_}
@@ -18,7 +18,8 @@ use Rattle.reading.specs.declared.plan.Node.{Node}
 use Rattle.reading.proofs.Laws.{all-at}
 use Rattle.reading.proofs.FieldBytes.{and-left, and-right}
 use Rattle.reading.proofs.Operators.{by-kind}
-use Rattle.reading.proofs.PlanBytes.{PlanKnown}
+use Rattle.reading.proofs.PlanBytes.{PlanKnown, part-at, node-at}
+use Rattle.reading.specs.declared.version.Version.the-variants.{Second}
 use Rattle.unnesting.specs.Images.{testComparison}
 
 pub record AllowedNode (node : Node) : Type 0 where
@@ -62,7 +63,7 @@ test-limit has form = by (eqb has 0) form
         let h : 64 ≤ 16 * (1 + suc (suc (suc f))) + 1 = omega arith in
         rw (getD-drop (16 * (1 + suc (suc (suc f)))) testLimits 1 0, List·getD-eq-default testLimits 0 h) (omega arith)
 
-module _ (part : List ℕ) (h : fieldsAllowed part ≡ true) where
+module _ (part : List ℕ) (h : fieldsAllowed Second part ≡ true) where
   abbrev k : Bool
   k = ltb (byteAt part 0) 15
 
@@ -76,7 +77,7 @@ module _ (part : List ℕ) (h : fieldsAllowed part ≡ true) where
   s = listAllowed (kindEntry (byteAt part 0) 8) part
 
   abbrev t : Bool
-  t = testAllowed (kindEntry (byteAt part 0) 9) part
+  t = testAllowed Second (kindEntry (byteAt part 0) 9) part
 
   abbrev form : Bool
   form = limited 16 (drop 16 part) (drop (testRow (kindEntry (byteAt part 0) 9) (byteAt part 16)) testLimits)
@@ -102,7 +103,7 @@ module _ (part : List ℕ) (h : fieldsAllowed part ≡ true) where
   test-kept =
       let whole = and-right s t (and-right c (s && t) (and-right l (c && (s && t)) (and-right k (l && (c && (s && t))) h))) in
       let limit = all-at 16 (λ j. leb (byteAt (drop 16 part) j) (byteAt (drop (testRow (kindEntry (byteAt part 0) 9) (byteAt part 16)) testLimits) j))
-      (and-left form (not (eqb (byteAt part 16) 2) || inRange (testNumber part)) whole) 1 (omega arith) in
+      (and-left form (not (eqb (byteAt part 16) 2) || inRange (testNumber Second part)) whole) 1 (omega arith) in
       rw (getD-drop 16 part 1 0) at (within (byteAt (drop 16 part) 1) (byteAt (drop (testRow (kindEntry (byteAt part 0) 9) (byteAt part 16)) testLimits) 1) 5 limit (test-limit (kindEntry (byteAt part 0) 9) (byteAt part 16)))
 
   aggregate-kept : (byteAt part 0 ≡ 10) ⊎ ((byteAt part 0 ≡ 12) ⊎ (byteAt part 0 ≡ 13)) → leb (byteAt part 1) 3 ≡ true
@@ -110,7 +111,7 @@ module _ (part : List ℕ) (h : fieldsAllowed part ≡ true) where
   aggregate-kept (inr (inl e)) = rw e at (field-limit 0 (omega arith))
   aggregate-kept (inr (inr e)) = rw e at (field-limit 0 (omega arith))
 
-  part-node : AllowedNode (nodeOf part)
+  part-node : AllowedNode (nodeOf Second part)
   unfolding nodeOf testOf
   part-node = record {
     tested = by (eqb (byteAt part 16) 0) (eqb (byteAt part 16) 1);
@@ -120,14 +121,16 @@ module _ (part : List ℕ) (h : fieldsAllowed part ≡ true) where
     counted = count-kept;
   }
     where
-      by : (a b : Bool) → leb (testComparison (if a then Always else if b then Columns (byteAt part 17) (byteAt part 19) (byteAt part 20) else Number (byteAt part 17) (byteAt part 19) (testNumber part))) 5 ≡ true
+      by : (a b : Bool) → leb (testComparison (if a then Always else if b then Columns (byteAt part 17) (byteAt part 19) (byteAt part 20) else Number (byteAt part 17) (byteAt part 19) (testNumber Second part))) 5 ≡ true
       by true b = refl
       by false true = test-kept
       by false false = test-kept
 
 -- the nodes of a plan that passes 6 to 9
 pub allowed-node : (plan : List ℕ) → PlanKnown plan → (i : ℕ) → i < nodesOf plan → AllowedNode (nodeAt plan i)
-unfolding nodeAt nodesAllowed
+unfolding nodesAllowed
 allowed-node plan known i b =
-    let fits : 6 + 32 * i + 32 ≤ length plan = omega (arith, known .long) in
-    rw (le-leb (6 + 32 * i + 32) (length plan) fits) (part-node (nodePart plan i) (all-at (nodesOf plan) (λ i. fieldsAllowed (nodePart plan i)) (known .nodes) i b))
+    let part = take 32 (drop (6 + 32 * i) plan) in
+    let allowed : fieldsAllowed Second part ≡ true =
+    ap (fieldsAllowed Second) (sym (part-at Second plan known i)) ∙ all-at (nodesOf plan) (λ i. fieldsAllowed Second (nodePart plan i)) (known .nodes) i b in
+    subst AllowedNode (sym (node-at Second plan known i b)) (part-node part allowed)

@@ -23,11 +23,12 @@ use Rattle.algebra.proofs.Steps.{modify-past}
 use Rattle.reading.specs.TableSet.{tablesOf}
 use Rattle.reading.specs.Plan.{planMark, nodesOf}
 use Rattle.reading.specs.Tree.{planAt, planOf, wholeTree}
-use Rattle.reading.specs.Encoding.{testBytes, noTest, listBytes, fieldBytes, nodeBytes, planBytes}
-use Rattle.reading.specs.Check.{inputRefusal, checkOf}
+use Rattle.reading.specs.Encoding.{testBytes, noTest, listBytes, fieldBytes, nodeBytes, nodeBytesAs, planBytes, planBytesAs}
+use Rattle.reading.specs.Check.{inputRefusal, checkOf, checkAs}
 use Rattle.reading.specs.declared.input.Checked.the-variants.{Accepted, Refused as InputRefused}
 use Rattle.reading.proofs.Places.{whole-size, flatMap-joined}
 use Rattle.reading.proofs.PlanBytes.{PlanKnown, plan-passed, bytes-plan, passes-accepted}
+use Rattle.reading.specs.declared.version.Version.the-variants.{Second}
 use Rattle.reporting.proofs.Reports.{answer-refused, accepted-input}
 use Rattle.unnesting.specs.Shapes.{shape, ready, nodeSlice, moreBytes, changedBytes, changedCount, Makes, Shaped}
 use Rattle.unnesting.specs.Images.{image}
@@ -48,7 +49,7 @@ pub record CandidateChecked (set : List ℕ) (q : Plan) : Type 0 where
   pub refused : inputRefusal set (planBytes q) ≢ 0 → passes (tablesOf set) q ≡ false
 
 pub candidate-checked : (set plan : List ℕ) (q : Plan) → inputRefusal set plan ≡ 0 → Written q → CandidateChecked set q
-unfolding planBytes passes
+unfolding planBytesAs passes
 candidate-checked set plan q e h =
     let accepts : passes (tablesOf set) q ≡ true → inputRefusal set (planBytes q) ≡ 0 = λ g. input-from set (planBytes q) (input-parts set plan e .0) (passes-accepted set q g .0) in
     record {
@@ -67,7 +68,7 @@ candidate-checked set plan q e h =
 
 -- ---- the bytes of the plan after a change
 
-test-bytes-long : (t : Test) → length (testBytes t) ≡ 16
+test-bytes-long : (t : Test) → length (testBytes Second t) ≡ 16
 test-bytes-long (test m always) = refl
 test-bytes-long (test m (columnsOf c l r)) = refl
 test-bytes-long (test m (numberOf c l w)) = refl
@@ -80,20 +81,20 @@ parts-long list tail h g = omega (arith, length-append list tail)
 
 -- a node has 32 bytes, also where its fields cannot be written
 node-long : (op : Operator) → length (nodeBytes op) ≡ 32
-unfolding nodeBytes
+unfolding nodeBytesAs
 node-long (leafNode unit) = refl
 node-long (leafNode (scan t n)) = refl
-node-long (unaryNode (select t)) = parts-long (listBytes []) (testBytes t) refl (test-bytes-long t)
-node-long (unaryNode (project ids)) = parts-long (listBytes ids) noTest (list-bytes-long ids) refl
-node-long (unaryNode (distinct ids)) = parts-long (listBytes ids) noTest (list-bytes-long ids) refl
-node-long (unaryNode (group g n l r c t)) = parts-long (listBytes []) (testBytes t) refl (test-bytes-long t)
-node-long (unaryNode (sort d ids)) = parts-long (listBytes ids) noTest (list-bytes-long ids) refl
+node-long (unaryNode (select t)) = parts-long (listBytes []) (testBytes Second t) refl (test-bytes-long t)
+node-long (unaryNode (project ids)) = parts-long (listBytes ids) (noTest Second) (list-bytes-long ids) refl
+node-long (unaryNode (distinct ids)) = parts-long (listBytes ids) (noTest Second) (list-bytes-long ids) refl
+node-long (unaryNode (group g n l r c t)) = parts-long (listBytes []) (testBytes Second t) refl (test-bytes-long t)
+node-long (unaryNode (sort d ids)) = parts-long (listBytes ids) (noTest Second) (list-bytes-long ids) refl
 node-long (binaryNode cross) = refl
-node-long (binaryNode (semi m l r t)) = parts-long (listBytes []) (testBytes t) refl (test-bytes-long t)
-node-long (binaryNode (quant m t)) = parts-long (listBytes []) (testBytes t) refl (test-bytes-long t)
-node-long (binaryNode (fold g n t)) = parts-long (listBytes []) (testBytes t) refl (test-bytes-long t)
+node-long (binaryNode (semi m l r t)) = parts-long (listBytes []) (testBytes Second t) refl (test-bytes-long t)
+node-long (binaryNode (quant m t)) = parts-long (listBytes []) (testBytes Second t) refl (test-bytes-long t)
+node-long (binaryNode (fold g n t)) = parts-long (listBytes []) (testBytes Second t) refl (test-bytes-long t)
 node-long (binaryNode each) = refl
-node-long (binaryNode (pair g n l r c t)) = parts-long (listBytes []) (testBytes t) refl (test-bytes-long t)
+node-long (binaryNode (pair g n l r c t)) = parts-long (listBytes []) (testBytes Second t) refl (test-bytes-long t)
 
 pub nodes-long : (ops : List Operator) → length (flatMap nodeBytes ops) ≡ 32 * length ops
 nodes-long [] = refl
@@ -150,13 +151,13 @@ module _ (T : Tables) (c : Option ℕ) (plan : List ℕ) (i : ℕ) (change : Cha
       ∙ (ap₂ _++_ (m .bytes) (a .past)
       ∙ (joined ∙ ap (λ (r : List ℕ). image (change .first) ++ (kept ++ (moreBytes change ++ r))) (slice-join plan (change .from) end (nodesOf plan) (m .before) inside)))))
 
-  after-bytes : length (changedBytes plan i change) ≡ 32 * changedCount plan i change → planMark ++ (changedCount plan i change ∷ changedBytes plan i change) ≡ planBytes planAfter
-  unfolding planBytes
+  after-bytes : length (changedBytes plan i change) ≡ 32 * changedCount plan i change → planMark Second ++ (changedCount plan i change ∷ changedBytes plan i change) ≡ planBytes planAfter
+  unfolding planBytesAs
   after-bytes long =
       let n : 32 * size planAfter ≡ 32 * changedCount plan i change =
       ap (λ (k : ℕ). 32 * k) (sym (flatten-length planAfter)) ∙ (sym (nodes-long (flatten planAfter)) ∙ (ap length after-nodes ∙ long)) in
       let k : changedCount plan i change ≡ size planAfter = omega arith in
-      ap₂ (λ (x : ℕ) (s : List ℕ). planMark ++ (x ∷ s)) k (sym after-nodes)
+      ap₂ (λ (x : ℕ) (s : List ℕ). planMark Second ++ (x ∷ s)) k (sym after-nodes)
 
 -- ---- the rule at a place
 
@@ -227,7 +228,7 @@ module _ (set plan : List ℕ) (input : inputRefusal set plan ≡ 0) (i : ℕ) (
 -- The plan after a change at place i, as the bytes that are written: whether they are accepted tells whether it passes.
 pub record Candidate (set plan : List ℕ) (i : ℕ) (change : Change) : Type 0 where
   pub after : Plan
-  pub bytes : planMark ++ (changedCount plan i change ∷ changedBytes plan i change) ≡ planBytes after
+  pub bytes : planMark Second ++ (changedCount plan i change ∷ changedBytes plan i change) ≡ planBytes after
   pub read : inputRefusal set (planBytes after) ≡ 0 → (passes (tablesOf set) after ≡ true) × (planOf (planBytes after) ≡ after)
   pub turned : inputRefusal set (planBytes after) ≢ 0 → possible (tablesOf set) (planOf plan) i ≡ none
   pub taken : inputRefusal set (planBytes after) ≡ 0 → possible (tablesOf set) (planOf plan) i ≡ some after
@@ -255,7 +256,7 @@ candidate set plan i change input tree m long =
 -- ---- the plan after a change, written and checked
 
 -- what a full front of a buffer says of the length of its bytes
-written-long : (buffer bytes : List ℕ) (long count : ℕ) → long ≤ length buffer → long ≡ 6 + 32 * count → take long buffer ≡ planMark ++ (count ∷ bytes) → length bytes ≡ 32 * count
+written-long : (buffer bytes : List ℕ) (long count : ℕ) → long ≤ length buffer → long ≡ 6 + 32 * count → take long buffer ≡ planMark Second ++ (count ∷ bytes) → length bytes ≡ 32 * count
 written-long buffer bytes long count h e q = omega (arith, length-take-le long buffer h, ap length q)
 
 pub fit-none : (T : Tables) (c : Option ℕ) (plan : List ℕ) (i : ℕ) (answer : Shape) → Shaped T c plan i answer → answer .fits ≡ false → shape T c (planAt plan i) ≡ none
@@ -266,7 +267,7 @@ fit-made T c plan i answer h e = rw e at h
 
 module _ (set plan : List ℕ) (i : ℕ) (change : Change) (input : inputRefusal set plan ≡ 0) (tree : passes (tablesOf set) (planOf plan) ≡ true)
     (made : Makes (tablesOf set) (fresh (tablesOf set) (planOf plan)) plan i change) (buffer : List ℕ) (long : ℕ) (room : length buffer ≡ 2086)
-    (ends : long ≡ 6 + 32 * changedCount plan i change) (written : take long buffer ≡ planMark ++ (changedCount plan i change ∷ changedBytes plan i change))
+    (ends : long ≡ 6 + 32 * changedCount plan i change) (written : take long buffer ≡ planMark Second ++ (changedCount plan i change ∷ changedBytes plan i change))
   where
     pub written-fits : long ≤ 2086
     written-fits = omega (arith, made .inside .count)
@@ -275,7 +276,7 @@ module _ (set plan : List ℕ) (i : ℕ) (change : Change) (input : inputRefusal
     written-candidate = candidate set plan i change input tree made (written-long buffer (changedBytes plan i change) long (changedCount plan i change) (omega (arith, written-fits)) ends written)
 
     pub tried-no : (number : ℕ) → checkOf set (take long buffer) ≡ InputRefused number → possible (tablesOf set) (planOf plan) i ≡ none
-    unfolding checkOf
+    unfolding checkAs
     tried-no number e =
         let c = written-candidate in
         let b : take long buffer ≡ planBytes (c .after) = written ∙ c .bytes in

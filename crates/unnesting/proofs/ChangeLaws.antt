@@ -6,6 +6,7 @@ use mathlib.Core.List.{List, [], _∷_, _++_, append-assoc}
 use lib.ListN.{length, take, drop, set, length-append, length-drop}
 use lib.Seq.{length-take-le, take-at, take-suc-set}
 use Rattle.reading.specs.Plan.{nodesOf, planMark}
+use Rattle.reading.specs.declared.version.Version.the-variants.{Second}
 use Rattle.unnesting.specs.Images.{image, bytesWritten}
 use Rattle.unnesting.specs.Shapes.{nodeSlice, moreBytes, changedBytes, changedCount}
 use Rattle.unnesting.specs.declared.change.Change.{Change}
@@ -26,11 +27,11 @@ part-front s out start n k at e h g =
     rw e (written-front out at (take n (drop start s)) (at + n) (omega (arith, long)) (omega (arith, long)))
 
 -- the header: the mark, and the count behind it
-pub header-front : (out l : List ℕ) (count : ℕ) → 6 ≤ length out → length l ≡ length out → l ≡ bytesWritten out 0 planMark
-    → take 6 (set l 5 count) ≡ planMark ++ (count ∷ [])
+pub header-front : (out l : List ℕ) (count : ℕ) → 6 ≤ length out → length l ≡ length out → l ≡ bytesWritten out 0 (planMark Second)
+    → take 6 (set l 5 count) ≡ planMark Second ++ (count ∷ [])
 header-front out l count h k e =
     take-suc-set l 5 count (omega arith)
-    ∙ ap (λ (s : List ℕ). s ++ (count ∷ [])) (ap (take 5) e ∙ written-front out 0 planMark 5 (omega arith) refl)
+    ∙ ap (λ (s : List ℕ). s ++ (count ∷ [])) (ap (take 5) e ∙ written-front out 0 (planMark Second) 5 (omega arith) refl)
 
 -- ---- the other nodes of a change, by their number
 
@@ -49,9 +50,9 @@ grown : (h a b c d e : List ℕ) → ((((h ++ a) ++ b) ++ c) ++ d) ++ e ≡ h ++
 grown h a b c d e = simp append-assoc
 
 module _ (plan : List ℕ) (i : ℕ) (change : Change) (n count : ℕ) (m : n ≡ nodesOf plan) (k : count ≡ changedCount plan i change) where
-  pub changed : {t₀ t₁ t₂ t₃ t₄ t₅ : List ℕ} → t₀ ≡ planMark ++ (count ∷ []) → t₁ ≡ t₀ ++ nodeSlice plan 0 i → t₂ ≡ t₁ ++ image (change .first)
+  pub changed : {t₀ t₁ t₂ t₃ t₄ t₅ : List ℕ} → t₀ ≡ planMark Second ++ (count ∷ []) → t₁ ≡ t₀ ++ nodeSlice plan 0 i → t₂ ≡ t₁ ++ image (change .first)
       → t₃ ≡ t₂ ++ nodeSlice plan (i + 1) (change .keep) → t₄ ≡ t₃ ++ moreBytes change → t₅ ≡ t₄ ++ nodeSlice plan (change .from) n
-      → t₅ ≡ planMark ++ (changedCount plan i change ∷ changedBytes plan i change)
+      → t₅ ≡ planMark Second ++ (changedCount plan i change ∷ changedBytes plan i change)
   changed e₀ e₁ e₂ e₃ e₄ e₅ =
       rw (e₅, e₄, e₃, e₂, e₁, e₀, m, k)
-      (grown (planMark ++ (changedCount plan i change ∷ [])) (nodeSlice plan 0 i) (image (change .first)) (nodeSlice plan (i + 1) (change .keep)) (moreBytes change) (nodeSlice plan (change .from) (nodesOf plan)))
+      (grown (planMark Second ++ (changedCount plan i change ∷ [])) (nodeSlice plan 0 i) (image (change .first)) (nodeSlice plan (i + 1) (change .keep)) (moreBytes change) (nodeSlice plan (change .from) (nodesOf plan)))

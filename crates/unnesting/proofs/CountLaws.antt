@@ -19,7 +19,8 @@ use Rattle.algebra.specs.Rules.{Top, top, Only, only, another, onlyOf, when, co
 use Rattle.algebra.proofs.Places.{size-positive}
 use Rattle.reading.specs.Check.{inputRefusal}
 use Rattle.reading.specs.TableSet.{tablesOf}
-use Rattle.reading.specs.Plan.{nodePart, nodeOf, nodeAt, nodesOf}
+use Rattle.reading.specs.Versions.{nodeSize}
+use Rattle.reading.specs.Plan.{planVersion, nodePart, nodeOf, nodeAt, nodesOf}
 use Rattle.reading.specs.Tree.{comparisonOf, nodeTest, nodeList, nodeAggregate, formOf, operatorBy, operatorOf, planAt, wholeTree}
 use Rattle.reading.specs.Encoding.{nodeBytes}
 use Rattle.reading.specs.declared.plan.Test.{Test}
@@ -91,9 +92,9 @@ operator-distinct node k e = rw e
 
 node-long : (plan : List ℕ) (i : ℕ) → length (nodeAt plan i .list) ≡ 7
 unfolding nodeAt nodeOf
-node-long plan i = by (leb (6 + 32 * i + 32) (length plan))
+node-long plan i = by (leb (6 + nodeSize (planVersion plan) * i + nodeSize (planVersion plan)) (length plan))
   where
-    by : (b : Bool) → length ((if b then nodeOf (nodePart plan i) else nodeOf []) .list) ≡ 7
+    by : (b : Bool) → length ((if b then nodeOf (planVersion plan) (nodePart plan i) else nodeOf (planVersion plan) []) .list) ≡ 7
     by true = refl
     by false = refl
 

@@ -18,7 +18,7 @@ use Rattle.algebra.proofs.Steps.{attempt-passes, demand-3 as tree-demand-3, run
 use Rattle.reading.specs.TableSet.{readSet, tablesOf}
 use Rattle.reading.specs.Tree.{planOf}
 use Rattle.reading.specs.Encoding.{planBytes}
-use Rattle.reading.specs.Check.{setNumber, orNext, planRefusal, inputRefusal}
+use Rattle.reading.specs.Check.{setNumber, orNext, planRefusal, inputRefusal, inputRefusalAs}
 use Rattle.reading.proofs.PlanBytes.{plan-passed, accepted-plans}
 use Rattle.reporting.specs.Report.{reportRows, reportColumns, rowCount, columnCount, codeOf, reportCodes, countAfter, outputAfter, Reported}
 use Rattle.unnesting.specs.Unnest.{bytesAfter, unnestSteps, unnestPlan, stepBytes, writtenSteps, writtenPlan, Unnested}
@@ -32,11 +32,11 @@ or-next zero b e = (refl, e)
 or-next (suc a) b e = absurd (omega arith)
 
 pub input-parts : (set plan : List ℕ) → inputRefusal set plan ≡ 0 → (setNumber (readSet set) ≡ 0) × (planRefusal set plan ≡ 0)
-unfolding inputRefusal
+unfolding inputRefusalAs
 input-parts set plan e = or-next (setNumber (readSet set)) (planRefusal set plan) e
 
 pub input-from : (set plan : List ℕ) → setNumber (readSet set) ≡ 0 → planRefusal set plan ≡ 0 → inputRefusal set plan ≡ 0
-unfolding inputRefusal
+unfolding inputRefusalAs
 input-from set plan e f = rw (e, f)
 
 -- ---- the plan left is accepted, and read back from its bytes

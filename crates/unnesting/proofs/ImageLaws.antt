@@ -12,11 +12,12 @@ use Rattle.algebra.specs.Plans.{test, select, project, group, cross, semi, pair
 use Rattle.algebra.specs.Places.{unaryNode, binaryNode}
 use Rattle.reading.specs.Tree.{comparisonOf, aggregateOf, formOf}
 use Rattle.reading.proofs.PlanBytes.{take-drop}
-use Rattle.reading.specs.Encoding.{markByte, fieldBytes, listBytes, testBytes, nodeBytes}
+use Rattle.reading.specs.Encoding.{markByte, fieldBytes, listBytes, testBytes, nodeBytes, nodeBytesAs}
 use Rattle.reading.specs.declared.plan.Test.{Test}
 use Rattle.reading.specs.declared.plan.Test.the-variants.{Always, Columns, Number}
 use Rattle.reading.specs.declared.plan.Node.{Node}
 use Rattle.reading.proofs.FieldBytes.{comparison-byte, aggregate-bytes}
+use Rattle.reading.specs.declared.version.Version.the-variants.{Second}
 use Rattle.unnesting.specs.Images.{testImage, image, plainNode, projectNode, testComparison, bytesWritten}
 
 -- ---- bytes, one by one
@@ -103,38 +104,38 @@ image-made node t h g e =
 -- ---- the nodes that the rules make
 
 -- a test's bytes, where its comparison is one
-pub test-image : (m : Bool) (t : Test) → leb (testComparison t) 5 ≡ true → testImage m t ≡ testBytes (test m (formOf t))
+pub test-image : (m : Bool) (t : Test) → leb (testComparison t) 5 ≡ true → testImage m t ≡ testBytes Second (test m (formOf t))
 test-image m Always h = refl
 test-image m (Columns c l r) h = ap (λ (x : ℕ). 1 ∷ x ∷ markByte m ∷ l ∷ r ∷ replicate 11 0) (sym (comparison-byte c h))
 test-image m (Number c l w) h = rw (comparison-byte c h)
 
 module _ (m : Bool) (t : Test) (h : leb (testComparison t) 5 ≡ true) where
   pub select-image : image (plainNode 2 0 0 0 0 0 0 m t) ≡ nodeBytes (unaryNode (select (test m (formOf t))))
-  unfolding image nodeBytes
+  unfolding image nodeBytesAs
   select-image = ap (λ (s : List ℕ). fieldBytes 2 0 0 0 0 0 0 ++ (listBytes [] ++ s)) (test-image m t h)
 
   -- Semi; with the mark, Anti
   pub keyed-image : (b : Bool) (l r : ℕ) → image (plainNode (6 + markByte b) 0 0 l r 0 0 m t) ≡ nodeBytes (binaryNode (semi b l r (test m (formOf t))))
-  unfolding image nodeBytes
+  unfolding image nodeBytesAs
   keyed-image b l r = ap (λ (s : List ℕ). fieldBytes (6 + markByte b) 0 0 l r 0 0 ++ (listBytes [] ++ s)) (test-image m t h)
 
   module _ (a column : ℕ) (ha : leb a 3 ≡ true) (hk : leb column 255 ≡ true) (hn : (not (eqb a 0) || eqb column 0) ≡ true) (c : ℕ) (hc : leb c 5 ≡ true) (id l r : ℕ) where
     pub pair-image : image (plainNode 12 a id l r c column m t) ≡ nodeBytes (binaryNode (pair (aggregateOf a column) id l r (comparisonOf c) (test m (formOf t))))
-    unfolding image nodeBytes
+    unfolding image nodeBytesAs
     pair-image =
         let g = aggregate-bytes a column ha hk hn in
         rw (g .code, g .column, comparison-byte c hc) (ap (λ (s : List ℕ). fieldBytes 12 a id l r c column ++ (listBytes [] ++ s)) (test-image m t h))
 
     pub group-image : image (plainNode 13 a id l r c column m t) ≡ nodeBytes (unaryNode (group (aggregateOf a column) id l r (comparisonOf c) (test m (formOf t))))
-    unfolding image nodeBytes
+    unfolding image nodeBytesAs
     group-image =
         let g = aggregate-bytes a column ha hk hn in
         rw (g .code, g .column, comparison-byte c hc) (ap (λ (s : List ℕ). fieldBytes 13 a id l r c column ++ (listBytes [] ++ s)) (test-image m t h))
 
 pub cross-image : image (plainNode 5 0 0 0 0 0 0 false Always) ≡ nodeBytes (binaryNode cross)
-unfolding image nodeBytes
+unfolding image nodeBytesAs
 cross-image = refl
 
 pub project-image : (id : ℕ) → image (projectNode id) ≡ nodeBytes (unaryNode (project (id ∷ [])))
-unfolding image nodeBytes
+unfolding image nodeBytesAs
 project-image id = refl

@@ -14,7 +14,7 @@ use Rattle.algebra.specs.StayNotes.{Sequences, sequencesOf, comparing, noted}
 use Rattle.reading.specs.TableSet.{tablesOf}
 use Rattle.reading.specs.Plan.{nodesOf}
 use Rattle.reading.specs.Tree.{planAt, planOf}
-use Rattle.reading.specs.Check.{inputRefusal, checkOf}
+use Rattle.reading.specs.Check.{inputRefusal, checkOf, checkAs}
 use Rattle.reading.specs.declared.input.Checked.the-variants.{Refused as InputRefused}
 use Rattle.reporting.specs.Report.{scratchAfter}
 use Rattle.reporting.proofs.Reports.{answer-refused}
@@ -83,7 +83,7 @@ module _ (set plan : List ℕ) (place : ℕ) (scratch scratch′ : List ℕ) (r 
   answered number e a c = record { answer = a ∙ ap (λ (k : ℕ). noteAfter k (noteDue set plan place)) (sym e); cleared = c }
 
   pub note-turned-back : (number : ℕ) → checkOf set plan ≡ InputRefused number → r ≡ Refused number → scratch′ ≡ scratch → StayNoted set plan place scratch scratch′ r
-  unfolding checkOf stayNumber
+  unfolding checkAs stayNumber
   note-turned-back number e a c = let (f, p) = answer-refused (inputRefusal set plan) _ _ _ number e in go number p f a
     where
       counted : (k : ℕ) → inputRefusal set plan ≡ suc k → stayNumber set plan (length scratch) ≡ suc k

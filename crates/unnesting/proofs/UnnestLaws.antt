@@ -10,7 +10,7 @@ use Rattle.algebra.specs.Refusals.{need}
 use Rattle.algebra.specs.Steps.{Step, orElse, attempt, after}
 use Rattle.reading.specs.TableSet.{tablesOf}
 use Rattle.reading.specs.Tree.{planOf}
-use Rattle.reading.specs.Check.{inputRefusal, checkOf}
+use Rattle.reading.specs.Check.{inputRefusal, checkOf, checkAs}
 use Rattle.reading.specs.declared.input.Checked.the-variants.{Refused as InputRefused}
 use Rattle.reporting.specs.Report.{scratchAfter}
 use Rattle.reporting.proofs.Reports.{answer-refused}
@@ -86,7 +86,7 @@ module _ (set plan planOut stepsOut scratch scratch′ : List ℕ) (refusal step
   refused-answer k e (r, s, b) c = record { number = r ∙ sym e; stepCount = rw e s; byteCount = rw e b; planWritten = rw e; stepsWritten = rw e; cleared = c }
 
   pub turned-back : (number : ℕ) → checkOf set plan ≡ InputRefused number → RefusedBy number → scratch′ ≡ scratch → Unnested set plan planOut planOut stepsOut stepsOut scratch scratch′ refusal steps bytes
-  unfolding checkOf
+  unfolding checkAs
   turned-back number e h c = let (f, p) = answer-refused (inputRefusal set plan) _ _ _ number e in go number p f h
     where
       go : (k : ℕ) → 0 < inputRefusal set plan → inputRefusal set plan ≡ k → RefusedBy k → Unnested set plan planOut planOut stepsOut stepsOut scratch scratch′ refusal steps bytes

@@ -13,6 +13,7 @@ use Rattle.algebra.specs.Steps.{attempt}
 use Rattle.reading.specs.TableSet.{tableMark, tablesOf}
 use Rattle.reading.specs.Plan.{planMark}
 use Rattle.reading.specs.Check.{inputRefusal}
+use Rattle.reading.specs.declared.version.Version.the-variants.{Second}
 use Rattle.reporting.specs.Report.{reportRows, rowCount, columnCount, reportNumber}
 use Rattle.unnesting.specs.Unnest.{unnestPlan, writtenSteps, writtenPlan, unnestNumber}
 use Rattle.unnesting.specs.StayNote.{noteDue, stayAnswer}
@@ -82,11 +83,11 @@ projectedPlan =
 
 -- a table of one column and so many rows, below 256: each cell the number 0
 abbrev pub tableOf : ℕ → List ℕ
-tableOf rows = tableMark ++ (1 ∷ rows ∷ 0 ∷ replicate (8 * rows) 0)
+tableOf rows = tableMark Second ++ (1 ∷ rows ∷ 0 ∷ replicate (8 * rows) 0)
 
 -- Cross of Scan 0 (id 0) and Scan 1 (id 1)
 unfoldable pub crossPlan : List ℕ
-crossPlan = planMark ++ (3 ∷ ((5 ∷ replicate 31 0) ++ ((1 ∷ replicate 31 0) ++ (1 ∷ 1 ∷ 1 ∷ replicate 29 0))))
+crossPlan = planMark Second ++ (3 ∷ ((5 ∷ replicate 31 0) ++ ((1 ∷ replicate 31 0) ++ (1 ∷ 1 ∷ 1 ∷ replicate 29 0))))
 
 -- an inner plan with no row: Select of a test that never holds over Scan 1
 unfoldable pub emptyInner : Plan

@@ -8,12 +8,13 @@ use Rattle.reading.specs.Encoding.{markByte, numberBytes}
 use Rattle.reading.specs.declared.plan.Test.{Test}
 use Rattle.reading.specs.declared.plan.Test.the-variants.{Always, Columns, Number}
 use Rattle.reading.specs.declared.plan.Node.{Node}
+use Rattle.reading.specs.declared.version.Version.the-variants.{Second}
 
 -- bytes 16 to 31
 abbrev pub testImage : Bool → Test → List ℕ
 testImage m Always = 0 ∷ 0 ∷ markByte m ∷ 0 ∷ replicate 12 0
 testImage m (Columns c l r) = 1 ∷ c ∷ markByte m ∷ l ∷ r ∷ replicate 11 0
-testImage m (Number c l w) = 2 ∷ c ∷ markByte m ∷ l ∷ (numberBytes w ++ replicate 4 0)
+testImage m (Number c l w) = 2 ∷ c ∷ markByte m ∷ l ∷ (numberBytes Second w ++ replicate 4 0)
 
 -- every field in its place
 unfoldable pub image : Node → List ℕ

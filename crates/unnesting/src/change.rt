@@ -5,6 +5,7 @@ ghost use mathlib.Core.List.{[], _∷_, _++_};
 ghost use Prim.Native.Nat.{_+_, _*_, _-_, _≤_};
 ghost use lib.ListN.{length, take};
 ghost use Rattle.reading.specs.Plan.{nodesOf, planMark};
+ghost use Rattle.reading.specs.declared.version.Version.the-variants.{Second};
 ghost use Rattle.unnesting.specs.Images.{image};
 ghost use Rattle.unnesting.specs.Shapes.{Inside, changedBytes, changedCount, moreBytes, nodeSlice};
 use crate::image::write_bytes;
@@ -53,7 +54,7 @@ pub(crate) fn no_shape(node: Node) -> Shape
 // A plan's header: the mark and the count of the nodes.
 fn write_header(out: &mut [u8], count: u8)
     requires { ⌜ 6 ≤ length (now out) ⌝ }
-    ensures { λ _. ⌜ take 6 (now (out .exit)) ≡ planMark ++ (count ∷ []) ⌝ }
+    ensures { λ _. ⌜ take 6 (now (out .exit)) ≡ planMark Second ++ (count ∷ []) ⌝ }
 {
     let mark = PLAN_MARK;
     write_bytes(out, 0, &mark);
@@ -101,7 +102,7 @@ fn put_more(out: &mut [u8], at: usize, change: Change) -> usize
 // Writes the plan after a change at place i to the front of out, and gives its length.
 pub(crate) fn write_change(plan: &[u8], i: usize, change: Change, out: &mut [u8]) -> usize
     requires { ⌜ Inside (now plan) i change × (length (now plan) ≡ 6 + 32 * nodesOf (now plan)) × (length (now out) ≡ 2086) ⌝ }
-    ensures { λ r. ⌜ (r ≡ 6 + 32 * changedCount (now (plan .entry)) i change) × (take r (now (out .exit)) ≡ planMark ++ (changedCount (now (plan .entry)) i change ∷ changedBytes (now (plan .entry)) i change)) ⌝ }
+    ensures { λ r. ⌜ (r ≡ 6 + 32 * changedCount (now (plan .entry)) i change) × (take r (now (out .exit)) ≡ planMark Second ++ (changedCount (now (plan .entry)) i change ∷ changedBytes (now (plan .entry)) i change)) ⌝ }
 {
     let n = nodes_of(plan);
     let first = change.first;

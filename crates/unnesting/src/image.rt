@@ -3,6 +3,7 @@ ghost use mathlib.Core.Path.{_≡_};
 ghost use Prim.Native.Nat.{_+_, _≤_};
 ghost use lib.ListN.{length};
 ghost use Rattle.reading.specs.Encoding.{markByte, numberBytes};
+ghost use Rattle.reading.specs.declared.version.Version.the-variants.{Second};
 ghost use Rattle.unnesting.specs.Images.{bytesWritten, image, plainNode, testImage};
 use reading::plan::Node;
 use reading::plan::Test;
@@ -15,7 +16,7 @@ fn mark_byte(mark: bool) -> u8
 
 // The eight bytes of a number that is held as a cell's word.
 fn number_bytes(number: u64) -> [u8; 8]
-    ensures { λ r. ⌜ r ≡ numberBytes number ⌝ }
+    ensures { λ r. ⌜ r ≡ numberBytes Second number ⌝ }
 {
     let code = if number < 9223372036854775808 {
         number + 9223372036854775808

@@ -4,14 +4,16 @@ use mathlib.Core.Path.{_≡_, refl, ap, _∙_}
 use mathlib.Core.List.{map}
 use lib.ListN.{length, take, length-set}
 use Rattle.algebra.specs.Lists.{upward}
-use Rattle.reading.specs.TableSet.{wordOf, cellAt}
+use Rattle.reading.specs.Versions.{wordOf}
+use Rattle.reading.specs.TableSet.{cellAt}
+use Rattle.reading.specs.declared.version.Version.the-variants.{Second}
 use Rattle.reading.proofs.NumberBytes.{unsigned-eight}
 use Rattle.reporting.proofs.TableRows.{next-cell, cell-word}
 use Rattle.reporting.proofs.leaf.words_in.Statement.{statement}
 use Rattle.reporting.proofs.leaf.words_in.Tie as tie
 
 abbrev Inv-loop : tie.InvT-loop
-Inv-loop cells₀ from n i₀ cells i = (i ≤ n) × (length cells ≡ length cells₀) × (take i cells ≡ map (cellAt from) (upward i 0))
+Inv-loop cells₀ from n i₀ cells i = (i ≤ n) × (length cells ≡ length cells₀) × (take i cells ≡ map (cellAt Second from) (upward i 0))
 
 abbrev μ-loop : tie.MeasureT-loop
 μ-loop cells₀ from n i₀ cells i = n - i
@@ -109,7 +111,7 @@ loop-again : tie.Need-loop-again Inv-loop μ-loop
 loop-again c =
     let l = c .before .before .before .before .before .before .before .before .before .before .loop in
     let from = c .before .before .before .before .before .before .before .before .before .before .before .before .before .args .from .now in
-    (omega arith, simp length-set (l .inv .1), rw (c .word .ensures ∙ ap wordOf (unsigned-eight from (8 * l .i)) ∙ cell-word from (l .i) (omega arith)) (next-cell (cellAt from) (l .cells) (l .i) (l .inv .2) (omega arith)))
+    (omega arith, simp length-set (l .inv .1), rw (c .word .ensures ∙ ap (wordOf Second) (unsigned-eight from (8 * l .i)) ∙ cell-word from (l .i) (omega arith)) (next-cell (cellAt Second from) (l .cells) (l .i) (l .inv .2) (omega arith)))
 
 -- src/leaf.rt:19:1
 same-length : tie.Need-same-length Inv-loop μ-loop

@@ -2,7 +2,8 @@ use mathlib.Core.Path.{_≡_, ap}
 use mathlib.Core.Logic.{inl, inr}
 use native.Mathlib.Omega.{arith}
 use borrow.Author.Needs.{needs}
-use Rattle.reading.specs.TableSet.{wordOf}
+use Rattle.reading.specs.Versions.{unsignedCode}
+use Rattle.reading.specs.declared.version.Version.the-variants.{Second}
 use Rattle.reading.specs.Encoding.{lowBytes}
 use Rattle.unnesting.proofs.image.number_bytes.Statement.{statement}
 use Rattle.unnesting.proofs.image.number_bytes.Tie as tie
@@ -10,7 +11,7 @@ use Rattle.unnesting.proofs.image.number_bytes.Reads as reads
 use Rattle.unnesting.proofs.image.number_bytes.Lts as lts
 
 -- half the range is added on one side of the middle and taken away on the other
-coded : (c : tie.Joined1) → c .if1 .code ≡ wordOf (c .before .args .number)
+coded : (c : tie.Joined1) → c .if1 .code ≡ unsignedCode Second (c .before .args .number)
 coded c = elim (c .if1 .came) [
   | inl p ↦ omega (arith, p .1, p .0 .taken, c .before .fits .number)
   | inr p ↦ omega (arith, p .1, p .0 .left, c .before .fits .number)
