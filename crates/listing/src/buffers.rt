@@ -2,14 +2,6 @@
 ghost use mathlib.Core.Path.{_≡_};
 ghost use lib.ListN.{length};
 
-// One byte more than the longest set of eight tables. Of a longer file only these bytes are read, and the answer is that for the whole:
-// tables are met from the front, and any byte after eight of them is refused.
-pub(crate) fn set_bytes() -> [u8; 1024065]
-    ensures { λ r. ⌜ 1024065 ≡ length r ⌝ }
-{
-    [0; 1024065]
-}
-
 // A plan whose need is larger is refused.
 pub(crate) fn scratch_cells() -> [u64; 262144]
     ensures { λ r. ⌜ 262144 ≡ length r ⌝ }

@@ -2,13 +2,12 @@
 // report of the plan left. Where a call turns its input back it prints only `refused` and the number.
 mod buffers;
 mod cell;
-mod files;
 mod print;
 
 use buffers::report_codes;
 use buffers::scratch_cells;
-use buffers::set_bytes;
 use files::read_file;
+use files::set_bytes;
 use print::show_refusal;
 use print::show_report;
 use print::show_steps;
