@@ -10,6 +10,9 @@ use Rattle.unnesting.specs.Unnest.{Unnested}
 use Rattle.unnesting.specs.StayNote.{StayNoted}
 use Rattle.unnesting.specs.declared.stay_note.StayNote.{StayNote}
 use Rattle.unnesting.specs.declared.stay_note.StayNote.the-variants.{Refused, None, Position}
+use Rattle.reading.specs.declared.version.Version.{Version}
+use Rattle.conversion.specs.Convert.{ConvertedFrom}
+use Rattle.conversion.specs.declared.convert.Converted.{Converted}
 
 -- ---- the words
 
@@ -26,6 +29,10 @@ abbrev pub stayWord : StayNote → ℕ
 stayWord (Refused number) = number
 stayWord None = 0
 stayWord (Position position) = 256 + 65536 * position
+
+-- refusal + 2 ^ 8 · bytes of the plan + 2 ^ 24 · bytes of the set
+abbrev pub convertWord : Converted → ℕ
+convertWord r = r .refusal + 256 * r .plan + 16777216 * r .set
 
 -- ---- the calls: the word holds an answer that is the lower layer's, with its buffers
 
@@ -45,3 +52,8 @@ pub record StayNoteCalled (set plan : List ℕ) (place : ℕ) (scratch scratch�
   pub answer : StayNote
   pub noted : StayNoted set plan place scratch scratch′ answer
   pub encoded : word ≡ stayWord answer
+
+pub record ConvertCalled (from to : Version) (set plan setOut setOut′ planOut planOut′ : List ℕ) (word : ℕ) : Type 0 where
+  pub answer : Converted
+  pub converted : ConvertedFrom from to set plan setOut setOut′ planOut planOut′ answer
+  pub encoded : word ≡ convertWord answer

@@ -1,5 +1,11 @@
 // The C interface. Each slice is passed as a pointer and a length, in this order; include/club.h has the declarations.
-ghost use Rattle.cabi.specs.Words.{ReportCalled, UnnestCalled, StayNoteCalled};
+ghost use mathlib.Core.Path.{_≡_};
+ghost use Prim.Native.Nat.{_≤_};
+ghost use Rattle.reading.specs.declared.version.Version.the-variants.{First, Second};
+ghost use Rattle.cabi.specs.Words.{convertWord, ReportCalled, UnnestCalled, StayNoteCalled, ConvertCalled};
+use conversion::convert::Converted;
+use conversion::convert::convert_down;
+use conversion::convert::convert_up;
 use reporting::report::report;
 use unnesting::stay_note::StayNote;
 use unnesting::stay_note::stay_note;
@@ -45,4 +51,31 @@ pub extern "C" fn club_stay_note(set: &[u8], plan: &[u8], place: usize, scratch:
         StayNote::None => 0,
         StayNote::Position(position) => 256 + 65536 * (position as u64),
     }
+}
+
+// The word of the converter's answer: refusal + 2^8 * bytes of the plan + 2^24 * bytes of the set.
+fn convert_word(answer: Converted) -> u64
+    requires { ⌜ (answer .set ≤ 1024064) × (answer .plan ≤ 2054) ⌝ }
+    ensures { λ r. ⌜ r ≡ convertWord answer ⌝ }
+{
+    let refusal = answer.refusal as u64;
+    let plan = answer.plan as u64;
+    let set = answer.set as u64;
+    refusal + 256 * plan + 16777216 * set
+}
+
+// The converter, from version 1 to version 2.
+#[no_mangle]
+pub extern "C" fn club_convert_up(set: &[u8], plan: &[u8], out_set: &mut [u8], out_plan: &mut [u8]) -> u64
+    ensures { λ r. ⌜ ConvertCalled First Second (now (set .entry)) (now (plan .entry)) (now («out_set» .entry)) (now («out_set» .exit)) (now («out_plan» .entry)) (now («out_plan» .exit)) r ⌝ }
+{
+    convert_word(convert_up(set, plan, out_set, out_plan))
+}
+
+// The converter, from version 2 back to version 1.
+#[no_mangle]
+pub extern "C" fn club_convert_down(set: &[u8], plan: &[u8], out_set: &mut [u8], out_plan: &mut [u8]) -> u64
+    ensures { λ r. ⌜ ConvertCalled Second First (now (set .entry)) (now (plan .entry)) (now («out_set» .entry)) (now («out_set» .exit)) (now («out_plan» .entry)) (now («out_plan» .exit)) r ⌝ }
+{
+    convert_word(convert_down(set, plan, out_set, out_plan))
 }
