@@ -66,7 +66,12 @@ fn convert_word(answer: Converted) -> u64
 
 // The converter, from version 1 to version 2.
 #[no_mangle]
-pub extern "C" fn club_convert_up(set: &[u8], plan: &[u8], out_set: &mut [u8], out_plan: &mut [u8]) -> u64
+pub extern "C" fn club_convert_up(
+    set: &[u8],
+    plan: &[u8],
+    out_set: &mut [u8],
+    out_plan: &mut [u8],
+) -> u64
     ensures { λ r. ⌜ ConvertCalled First Second (now (set .entry)) (now (plan .entry)) (now («out_set» .entry)) (now («out_set» .exit)) (now («out_plan» .entry)) (now («out_plan» .exit)) r ⌝ }
 {
     convert_word(convert_up(set, plan, out_set, out_plan))
@@ -74,7 +79,12 @@ pub extern "C" fn club_convert_up(set: &[u8], plan: &[u8], out_set: &mut [u8], o
 
 // The converter, from version 2 back to version 1.
 #[no_mangle]
-pub extern "C" fn club_convert_down(set: &[u8], plan: &[u8], out_set: &mut [u8], out_plan: &mut [u8]) -> u64
+pub extern "C" fn club_convert_down(
+    set: &[u8],
+    plan: &[u8],
+    out_set: &mut [u8],
+    out_plan: &mut [u8],
+) -> u64
     ensures { λ r. ⌜ ConvertCalled Second First (now (set .entry)) (now (plan .entry)) (now («out_set» .entry)) (now («out_set» .exit)) (now («out_plan» .entry)) (now («out_plan» .exit)) r ⌝ }
 {
     convert_word(convert_down(set, plan, out_set, out_plan))

@@ -1,3 +1,4 @@
 pub mod TableLaws
 pub mod SetLaws
 pub mod Laws
+pub mod Few
