@@ -2,7 +2,7 @@
 use Prim.Native.Nat.{ℕ, zero, suc, _+_, _*_, _≤_, _<_}
 use native.Mathlib.Omega.{arith}
 use native.Mathlib.Nat.{mul-le-mul}
-use mathlib.Core.Path.{_≡_, refl, sym, ap, _∙_}
+use mathlib.Core.Path.{_≡_, refl, ap, _∙_}
 use mathlib.Core.Bool.{Bool, true, false, _&&_, and-eq-true-iff}
 use mathlib.Core.List.{List, [], _∷_, _++_}
 use lib.Dec.{eqb, leb}
@@ -12,7 +12,6 @@ use Rattle.algebra.specs.Lists.{if_then_else_, flatMap, upward}
 use Rattle.algebra.specs.Plans.{always, columnsOf as columnsTest, numberOf, Test, test, unit, scan, select, project, distinct, group, sort, cross, semi, quant, fold, each, pair}
 use Rattle.algebra.specs.Places.{Operator, leafNode, unaryNode, binaryNode, size, flatten}
 use Rattle.algebra.proofs.Places.{flatten-length}
-use Rattle.reading.specs.Versions.{cellSize, nodeSize}
 use Rattle.reading.specs.TableSet.{tableMark, columnsOf, rowsOf, sizeAllowed, afterTable, readTable, readFrom, readSetAs, amountOf, tableFrom}
 use Rattle.reading.specs.Plan.{planMark}
 use Rattle.reading.specs.Tree.{planOf}
@@ -20,7 +19,6 @@ use Rattle.reading.specs.Encoding.{numberBytes, testBytes, noTest, listBytes, f
 use Rattle.reading.specs.Check.{planNumber, orNext, inputRefusalAs}
 use Rattle.reading.specs.declared.version.Version.{Version}
 use Rattle.reading.specs.declared.version.Version.the-variants.{First, Second}
-use Rattle.reading.specs.declared.set.SetRead.{SetRead}
 use Rattle.reading.specs.declared.set.SetRead.the-variants.{Holds, Refused}
 use Rattle.reading.specs.declared.set.TableRead.{TableRead}
 use Rattle.reading.specs.declared.set.TableRead.the-variants.{Whole, Bad}
@@ -28,7 +26,7 @@ use Rattle.reading.proofs.Laws.{accepted-table}
 use Rattle.reading.proofs.Places.{upward-length, whole-size}
 use Rattle.reading.proofs.PlanBytes.{plan-known-as}
 use Rattle.conversion.specs.Bytes.{tableWords, tableBytes, setBytes, planIn}
-use Rattle.conversion.specs.Convert.{convertedSet, fitNumber, roomNumber, convertNumber, countAfter, ConvertedFrom}
+use Rattle.conversion.specs.Convert.{convertedSet, convertNumber, countAfter, ConvertedFrom}
 use Rattle.conversion.specs.declared.convert.Converted.{Converted}
 use Rattle.conversion.proofs.Laws.{acceptance}
 
