@@ -1,14 +1,14 @@
-/* The C interface of the club report plans: report, unnest, stay note.
+/* The C interface of the club report plans: report, unnest, stay note, and the converter of versions.
  *
  * Link with libcabi.a, which `rt staticlib cabi` writes to target/staticlib/ once everything is proved (x86-64 Linux). The archive needs
  * nothing but the C library.
  *
  * The set of tables and the plan are any bytes. A buffer is a pointer and the number of its elements (not of its bytes, where an
  * element is wider than one). What the caller owes: a pointer is not null, not even with length 0; it is aligned for its element;
- * so many elements can be read, and those of out, out_plan, out_steps and scratch written; and a buffer that is written overlaps no
+ * so many elements can be read, and those of out, out_set, out_plan, out_steps and scratch written; and a buffer that is written overlaps no
  * other. No call allocates, keeps a pointer, or fails in any other way than by a refusal number.
  *
- * Tables and plans are of version 2. A cell is a signed 64-bit code: a number from -9,000,000,000,000,000 to 9,000,000,000,000,000, or one of the
+ * Tables and plans are of version 2, but for those that the converter takes up from version 1 and gives back in it. A cell is a signed 64-bit code: a number from -9,000,000,000,000,000 to 9,000,000,000,000,000, or one of the
  * two codes below. A set has at most 1,024,064 bytes, a plan at most 2,054.
  *
  * Each call gives one 64-bit word. Its low byte is the refusal, 0 for none; a refused call gives its number alone. Which answer is the
@@ -22,6 +22,7 @@
  *    6  plan's length                       14  a bound over 4,096 rows
  *    7  plan's mark, or not version 2       15  output short
  *    8  node count                          16  scratch below the need; tested before 15
+ *                                           25  a number that does not fit version 1; tested before 15
  *
  * A refused call leaves its outputs as they were. Unwritten output keeps its elements. Scratch is untouched after 1 to 14 and all zero
  * after every other end. It is of cells of 64 bits, and counted in them. The need is at most 8,392,704 cells: 4,096, and for each of up to 64
@@ -58,12 +59,23 @@ uint64_t club_unnest(const uint8_t *set, size_t set_len, const uint8_t *plan, si
 uint64_t club_stay_note(const uint8_t *set, size_t set_len, const uint8_t *plan, size_t plan_len,
                         size_t place, uint64_t *scratch, size_t scratch_len);
 
+/* A set and a plan of version 1 taken up to version 2, and of version 2 taken down to version 1: the set at the front of out_set, the plan at
+ * the front of out_plan. Up, 1,024,064 and 2,054 bytes hold any; down, 512,064 and 1,542. 2 and 7 mean: not the version that the call takes.
+ * Down is refused 25 where a number of any table or test lies outside -2,000,000,000 to 2,000,000,000. Where either buffer is short neither is
+ * written. Gives refusal + 2^8 * bytes of the plan + 2^24 * bytes of the set. */
+uint64_t club_convert_up(const uint8_t *set, size_t set_len, const uint8_t *plan, size_t plan_len,
+                         uint8_t *out_set, size_t out_set_len, uint8_t *out_plan, size_t out_plan_len);
+uint64_t club_convert_down(const uint8_t *set, size_t set_len, const uint8_t *plan, size_t plan_len,
+                           uint8_t *out_set, size_t out_set_len, uint8_t *out_plan, size_t out_plan_len);
+
 /* The parts of a word. */
 static inline unsigned club_refusal(uint64_t word) { return (unsigned)(word & 0xff); }
 static inline size_t club_columns(uint64_t report) { return (size_t)(report >> 8 & 0xff); }
 static inline size_t club_rows(uint64_t report) { return (size_t)(report >> 16); }
 static inline size_t club_steps(uint64_t unnested) { return (size_t)(unnested >> 8 & 0xffff); }
 static inline size_t club_plan_bytes(uint64_t unnested) { return (size_t)(unnested >> 24); }
+static inline size_t club_converted_plan_bytes(uint64_t converted) { return (size_t)(converted >> 8 & 0xffff); }
+static inline size_t club_converted_set_bytes(uint64_t converted) { return (size_t)(converted >> 24); }
 static inline int club_has_note(uint64_t note) { return (note & 0xffff) == 0x100; }
 static inline size_t club_position(uint64_t note) { return (size_t)(note >> 16); }
 

@@ -4,7 +4,7 @@
 #include <inttypes.h>
 #include <stdio.h>
 
-static uint8_t set[1100000], plan[2500], out_plan[2054], out_steps[384];
+static uint8_t set[1100000], plan[2500], out_set[1024064], out_plan[2054], out_steps[384];
 static int64_t out[4096 * 32];
 static uint64_t scratch[1000000];
 
@@ -54,6 +54,16 @@ static void print_notes(size_t set_len, size_t plan_len)
     }
 }
 
+/* Down to version 1, and what was given up again. */
+static void print_converted(size_t set_len, size_t plan_len)
+{
+    uint64_t down = club_convert_down(set, set_len, plan, plan_len, out_set, sizeof out_set, out_plan, sizeof out_plan);
+    size_t set_bytes = club_converted_set_bytes(down), plan_bytes = club_converted_plan_bytes(down);
+    uint64_t up = club_convert_up(out_set, set_bytes, out_plan, plan_bytes, set, sizeof set, plan, sizeof plan);
+    printf("down refusal %u set %zu plan %zu\n", club_refusal(down), set_bytes, plan_bytes);
+    printf("up refusal %u set %zu plan %zu\n", club_refusal(up), club_converted_set_bytes(up), club_converted_plan_bytes(up));
+}
+
 int main(int count, char **names)
 {
     size_t set_len, plan_len;
@@ -64,5 +74,6 @@ int main(int count, char **names)
     print_report(set_len, plan_len);
     print_steps(set_len, plan_len);
     print_notes(set_len, plan_len);
+    print_converted(set_len, plan_len);
     return 0;
 }

@@ -1,7 +1,8 @@
-//! The three calls of the library's archive, on buffers that show every stray write.
+//! The calls of the library's archive, on buffers that show every stray write.
 //!
 //! Each buffer stands between canaries and is full of noise before the call. What a call may not change is compared with what it was.
 
+use crate::convert::Way;
 use crate::nodes::LARGEST_PLAN;
 use crate::random::Random;
 
@@ -37,7 +38,30 @@ extern "C" {
         scratch: *mut u64,
         scratch_len: usize,
     ) -> u64;
+    fn club_convert_up(
+        set: *const u8,
+        set_len: usize,
+        plan: *const u8,
+        plan_len: usize,
+        out_set: *mut u8,
+        out_set_len: usize,
+        out_plan: *mut u8,
+        out_plan_len: usize,
+    ) -> u64;
+    fn club_convert_down(
+        set: *const u8,
+        set_len: usize,
+        plan: *const u8,
+        plan_len: usize,
+        out_set: *mut u8,
+        out_set_len: usize,
+        out_plan: *mut u8,
+        out_plan_len: usize,
+    ) -> u64;
 }
+
+/// Either call of the converter.
+type Convert = unsafe extern "C" fn(*const u8, usize, *const u8, usize, *mut u8, usize, *mut u8, usize) -> u64;
 
 /// The reporting call on slices: its word.
 pub fn report_in(set: &[u8], plan: &[u8], out: &mut [i64], scratch: &mut [u64]) -> u64 {
@@ -80,6 +104,27 @@ pub fn stay_note_in(set: &[u8], plan: &[u8], place: usize, scratch: &mut [u64]) 
     // As in `report_in`.
     unsafe {
         club_stay_note(set.as_ptr(), set.len(), plan.as_ptr(), plan.len(), place, scratch.as_mut_ptr(), scratch.len())
+    }
+}
+
+/// The converter's call of a way on slices: its word.
+pub fn convert_in(way: Way, set: &[u8], plan: &[u8], out_set: &mut [u8], out_plan: &mut [u8]) -> u64 {
+    let call: Convert = match way {
+        Way::Up => club_convert_up,
+        Way::Down => club_convert_down,
+    };
+    // As in `report_in`.
+    unsafe {
+        call(
+            set.as_ptr(),
+            set.len(),
+            plan.as_ptr(),
+            plan.len(),
+            out_set.as_mut_ptr(),
+            out_set.len(),
+            out_plan.as_mut_ptr(),
+            out_plan.len(),
+        )
     }
 }
 
@@ -249,4 +294,27 @@ pub fn stay_note(
     input.kept()?;
     scratch.left_as_promised(word & 0xff)?;
     Ok(word)
+}
+
+/// The converter's call of a way: its word, and the set and plan bytes that it wrote, so many as it says.
+pub fn convert(
+    random: &mut Random,
+    way: Way,
+    set: &[u8],
+    plan: &[u8],
+    out_set_bytes: usize,
+    out_plan_bytes: usize,
+) -> Result<(u64, Vec<u8>, Vec<u8>), String> {
+    let input = Input::new(random, set, plan);
+    let mut out_set = Lent::of_noise(random, out_set_bytes, byte);
+    let mut out_plan = Lent::of_noise(random, out_plan_bytes, byte);
+    let word = convert_in(way, input.set.content(), input.plan.content(), out_set.lend(), out_plan.lend());
+    input.kept()?;
+    let (plan_bytes, set_bytes) = ((word >> 8 & 0xffff) as usize, (word >> 24) as usize);
+    if set_bytes > out_set_bytes || plan_bytes > out_plan_bytes {
+        return Err(format!("word {word:#x} tells of more bytes than there is room for"));
+    }
+    out_set.kept_from("set output", set_bytes)?;
+    out_plan.kept_from("plan output", plan_bytes)?;
+    Ok((word, out_set.content()[..set_bytes].to_vec(), out_plan.content()[..plan_bytes].to_vec()))
 }

@@ -30,6 +30,16 @@ impl Way {
     }
 }
 
+impl Converted {
+    /// The pair within these rooms, or 15 where either is short.
+    pub fn within(&self, out_set_bytes: usize, out_plan_bytes: usize) -> Result<&Converted, u8> {
+        match (self.set.len(), self.plan.len()) {
+            (set, plan) if out_set_bytes < set || out_plan_bytes < plan => Err(15),
+            _ => Ok(self),
+        }
+    }
+}
+
 /// The converter's call: refusals 1 to 14 of the version that it takes, the set before the plan; then 25, where a number does not fit the
 /// version that it gives, which can only be on the way down; then 15, where either room is short; or the pair.
 pub fn convert(
@@ -39,16 +49,17 @@ pub fn convert(
     out_set_bytes: usize,
     out_plan_bytes: usize,
 ) -> Result<Converted, u8> {
+    converted(way, set, plan)?.within(out_set_bytes, out_plan_bytes).cloned()
+}
+
+/// The pair in the other version, without any limit of room.
+pub fn converted(way: Way, set: &[u8], plan: &[u8]) -> Result<Converted, u8> {
     let (from, to) = way.versions();
     let (tables, tree) = read_in(&from, set, plan)?;
     if !fits(&to, &tables, &tree) {
         return Err(25);
     }
-    let converted = Converted { set: write_set_in(&to, &tables), plan: write_plan_in(&to, &tree) };
-    if out_set_bytes < converted.set.len() || out_plan_bytes < converted.plan.len() {
-        return Err(15);
-    }
-    Ok(converted)
+    Ok(Converted { set: write_set_in(&to, &tables), plan: write_plan_in(&to, &tree) })
 }
 
 /// Whether every number fits a version: those in cells of all tables, scanned or not, and those of tests. Blank and off scale always do.
@@ -63,9 +74,9 @@ pub fn fits(version: &Version, tables: &[Table], tree: &Plan) -> bool {
 }
 
 /// What C gets from either call.
-pub fn convert_word(answer: &Result<Converted, u8>) -> u64 {
+pub fn convert_word(answer: Result<&Converted, u8>) -> u64 {
     match answer {
         Ok(converted) => ((converted.plan.len() as u64) << 8) + ((converted.set.len() as u64) << 24),
-        Err(number) => u64::from(*number),
+        Err(number) => u64::from(number),
     }
 }

@@ -5,21 +5,23 @@
 use crate::archive;
 use crate::between::Met;
 use crate::calls;
-use crate::cases::{damaged_once, fault_case};
+use crate::cases::{damaged_once, damaged_once_in, fault_case};
 use crate::cells::{BLANK, OFF_SCALE};
 use crate::check::{need, need_before};
+use crate::convert::{convert_word, converted, Converted, Way};
 use crate::damage::{faults, Fault};
 use crate::downward::{decided_by_equal_rows, sorts_with_equal_rows};
 use crate::evaluate::{column_cells, first_occurrences, Left};
 use crate::generate::{accepted, common_beginning, downward, in_place, steps, totals, unequal, with_between, Input};
 use crate::large;
+use crate::nodes::write_plan_in;
 use crate::plan::Comparison::NotEqual;
 use crate::plan::{Aggregate, Form, Plan, Test};
 use crate::random::Random;
 use crate::rules::{sequences, stay_position};
-use crate::tables::Table;
-use crate::version::VERSION_2;
-use crate::wide::wide_totals;
+use crate::tables::{write_set_in, Table};
+use crate::version::{VERSION_1, VERSION_2};
+use crate::wide::{narrowed, wide_totals};
 
 /// How often each answer and each rule was met.
 #[derive(Clone, Default)]
@@ -251,8 +253,14 @@ fn two_faults(random: &mut Random, faults: &[Fault]) -> (Vec<u8>, Vec<u8>) {
 /// An accepted input with a few bytes changed, cut off or put on.
 fn mangled(random: &mut Random) -> (Vec<u8>, Vec<u8>) {
     let (mut set, mut plan) = bytes_of(&accepted(random));
+    mangle(random, &mut set, &mut plan);
+    (set, plan)
+}
+
+/// Changes a few bytes, cuts some off or puts some on.
+fn mangle(random: &mut Random, set: &mut Vec<u8>, plan: &mut Vec<u8>) {
     for _ in 0..random.between(1, 3) {
-        let bytes = if random.chance(30) { &mut set } else { &mut plan };
+        let bytes = if random.chance(30) { &mut *set } else { &mut *plan };
         let place = random.below(bytes.len() + 1);
         match random.below(10) {
             0 => bytes.truncate(place),
@@ -262,7 +270,6 @@ fn mangled(random: &mut Random) -> (Vec<u8>, Vec<u8>) {
             _ => bytes[place] = random.below(16) as u8,
         }
     }
-    (set, plan)
 }
 
 /// Holds all calls on one input against the second evaluator.
@@ -487,7 +494,96 @@ pub fn hold_stay_notes(random: &mut Random, set: &[u8], plan: &[u8], counts: &mu
 
 // ---- the converter
 
-// The archive does not have the converter's two calls yet. Once it has, this is the place to hold them against `convert::convert`: their words
-// against `convert::convert_word`, both outputs, and both rooms at, below and above their edges, where neither may be written if either is short.
-// The inputs for it are drawn by `wide::narrowed` (version 1, and version 2 that fits it), by `generate::accepted` (version 2 that mostly does
-// not fit), and by `damage::damaged` in either version.
+/// Answers of the converter up and down by their number, 0 for none; 25 is the largest.
+pub type Conversions = [[usize; 26]; 2];
+
+/// Holds so many inputs for the converter, half of them for either way, against the second evaluator. The first difference ends it.
+pub fn hold_conversions(seed: u64, count: u64, counts: &mut Conversions) -> Result<(), String> {
+    let faults = faults();
+    for seed in seed..seed + count {
+        let mut random = Random::new(seed);
+        let way = random.pick(&[Way::Up, Way::Down]);
+        let (set, plan) = to_convert(&mut random, way, &faults);
+        hold_convert(&mut random, way, &set, &plan, counts)
+            .map_err(|difference| format!("seed {seed}: {difference}"))?;
+    }
+    Ok(())
+}
+
+/// A random input for the converter: accepted, up always with numbers that fit and down mostly; with one fault; or with bytes changed.
+fn to_convert(random: &mut Random, way: Way, faults: &[Fault]) -> (Vec<u8>, Vec<u8>) {
+    let (from, _) = way.versions();
+    if random.chance(40) {
+        let fault = random.below(faults.len());
+        if let Some(case) = damaged_once_in(from, random, &[&faults[fault]]) {
+            return (case.set, case.plan);
+        }
+    }
+    let input = match random.below(20) {
+        0 => large::large(random, WORK),
+        1..=4 => totals(random),
+        _ => accepted(random),
+    };
+    let input = if way == Way::Up || random.chance(70) { narrowed(input) } else { input };
+    let (mut set, mut plan) = (write_set_in(&from, &input.tables), write_plan_in(&from, &input.plan));
+    if random.chance(15) {
+        mangle(random, &mut set, &mut plan);
+    }
+    (set, plan)
+}
+
+/// The converter's call of a way at the edge of both rooms, with either one byte short, and at one pair of rooms around it; and the archive's
+/// report of a pair taken up, which is the old one wherever no sum left the old range.
+pub fn hold_convert(
+    random: &mut Random,
+    way: Way,
+    set: &[u8],
+    plan: &[u8],
+    counts: &mut Conversions,
+) -> Result<(), String> {
+    let due = converted(way, set, plan);
+    let (set_bytes, plan_bytes) = match &due {
+        Ok(due) => (due.set.len(), due.plan.len()),
+        Err(_) => (random.below(2 * set.len() + 9), random.below(2 * plan.len() + 9)),
+    };
+    let around = match random.below(3) {
+        0 => (random.below(set_bytes + 1), random.below(plan_bytes + 1)),
+        1 => (below(set_bytes), below(plan_bytes)),
+        _ => (set_bytes + random.below(40), plan_bytes + random.below(40)),
+    };
+    for (set_room, plan_room) in
+        [(set_bytes, plan_bytes), (below(set_bytes), plan_bytes), (set_bytes, below(plan_bytes)), around]
+    {
+        let rooms = format!("{way:?} with rooms {set_room} and {plan_room}");
+        let expected = match &due {
+            Ok(due) => due.within(set_room, plan_room),
+            Err(number) => Err(*number),
+        };
+        let (word, set_given, plan_given) = archive::convert(random, way, set, plan, set_room, plan_room)
+            .map_err(|error| format!("{rooms}: {error}"))?;
+        counts[way as usize][expected.err().map_or(0, usize::from)] += 1;
+        let right = convert_word(expected);
+        if word != right {
+            return Err(format!("{rooms}: the word is {word:#x} and not {right:#x}"));
+        }
+        if expected.is_ok_and(|due| due.set != set_given || due.plan != plan_given) {
+            return Err(format!("{rooms}: the pair differs"));
+        }
+    }
+    match (way, due) {
+        (Way::Up, Ok(due)) => hold_converted_report(random, set, plan, &due),
+        _ => Ok(()),
+    }
+}
+
+/// The archive's report of a pair taken up beside the second evaluator's of the pair of version 1, where no sum left the old range.
+fn hold_converted_report(random: &mut Random, set: &[u8], plan: &[u8], due: &Converted) -> Result<(), String> {
+    let (tables, tree) = calls::read_in(&VERSION_1, set, plan).expect("a pair that was taken up");
+    let (old, left) = calls::report_in(VERSION_1, &tree, &tables);
+    let scratch = need(&tree, &tables) as usize;
+    let (_, codes) = archive::report(random, &due.set, &due.plan, 1 << 17, scratch)?;
+    if left.range == 0 && codes != old.codes {
+        return Err("the report of the pair taken up is not the old one".to_string());
+    }
+    Ok(())
+}

@@ -8,15 +8,19 @@ mod held {
     use second::cases::cases;
     use second::cells::{is_number, BLANK, LARGEST, OFF_SCALE};
     use second::check::columns;
+    use second::convert::Way;
     use second::edges::edges;
     use second::generate::Input;
-    use second::held::{hold, hold_report, hold_seeds, hold_unnest, Counts};
+    use second::held::{
+        hold, hold_conversions, hold_convert, hold_report, hold_seeds, hold_unnest, Conversions, Counts,
+    };
     use second::in_place::{over, plan_of, tables, Operator, Tree};
-    use second::nodes::write_plan;
+    use second::nodes::{write_plan, write_plan_in};
     use second::plan::Comparison::{Equal, Greater, Less};
     use second::plan::{Aggregate, Comparison, Plan, Test, ALWAYS, COMPARISONS};
     use second::random::Random;
-    use second::tables::{write_set, Table};
+    use second::tables::{write_set, write_set_in, Table};
+    use second::wide::narrowed;
 
     /// How many random inputs are tried.
     const INPUTS: u64 = 15_000;
@@ -198,6 +202,35 @@ mod held {
             }
         }
         println!("every two wide cells: reports {}", counts.reports[0]);
+    }
+
+    #[test]
+    fn k13_pairs_are_converted_as_by_the_second_evaluator() {
+        let mut counts = Conversions::default();
+        hold_conversions(30_000_000, INPUTS / 2, &mut counts).expect("no difference");
+        // The edges in both versions, those that do not fit the old one too, and the largest pair.
+        let mut random = Random::new(22);
+        let selects = (0..63).fold(scan(7, 0), |plan, _| select(number_test(0, Less, -7), plan));
+        let largest = Input { tables: vec![sized(16, 1000); 8], plan: selects };
+        for (name, input) in edges().into_iter().chain([("the largest pair".to_string(), largest)]) {
+            let narrow = narrowed(input.clone());
+            for (way, input) in [(Way::Up, &narrow), (Way::Down, &narrow), (Way::Down, &input)] {
+                let (from, _) = way.versions();
+                let (set, plan) = (write_set_in(&from, &input.tables), write_plan_in(&from, &input.plan));
+                hold_convert(&mut random, way, &set, &plan, &mut counts).expect(&name);
+            }
+        }
+        for (way, counts) in ["up", "down"].iter().zip(counts) {
+            println!(
+                "taken {way}: given {}, refused 1 to 14 {:?}, 15 {}, 25 {}",
+                counts[0],
+                &counts[1..15],
+                counts[15],
+                counts[25]
+            );
+            assert!(counts[..16].iter().all(|&count| count >= 20), "{counts:?}");
+        }
+        assert!(counts[0][25] == 0 && counts[1][25] >= 100, "{counts:?}");
     }
 
     /// The set of a table of these rows of two cells, each with its number in a third column, which tells equal rows apart.

@@ -192,9 +192,9 @@ fn refusals_come_in_their_order() {
         assert_eq!(convert(way, &set, &plan, set_room, plan_room - 1), Err(15));
         assert_eq!(convert(way, &set, &plan, 0, ROOMY), Err(15));
         assert_eq!(convert(way, &set, &plan, ROOMY, 0), Err(15));
-        assert_eq!(convert_word(&Ok(due)), ((plan_room as u64) << 8) + ((set_room as u64) << 24));
+        assert_eq!(convert_word(Ok(&due)), ((plan_room as u64) << 8) + ((set_room as u64) << 24));
     }
-    assert_eq!(convert_word(&Err(25)), 25);
+    assert_eq!(convert_word(Err(25)), 25);
 }
 
 // ---- reports

@@ -3,6 +3,8 @@
 
 use second::build::*;
 use second::calls::{report, stay_note, unnest, ROOMY};
+use second::cells::LARGEST;
+use second::convert::{convert, Converted, Way};
 use second::edges::club;
 use second::generate::Input;
 use second::plan::Plan;
@@ -57,14 +59,25 @@ fn expected(set: &[u8], plan: &[u8]) -> String {
             Err(number) => format!("note at {place}: none, refusal {number}\n"),
         };
     }
-    text
+    let down = convert(Way::Down, set, plan, ROOMY, ROOMY);
+    let (old_set, old_plan) = down.clone().map_or((vec![], vec![]), |pair| (pair.set, pair.plan));
+    text + &sizes("down", down) + &sizes("up", convert(Way::Up, &old_set, &old_plan, ROOMY, ROOMY))
+}
+
+/// What the C program has to print of a conversion.
+fn sizes(way: &str, answer: Result<Converted, u8>) -> String {
+    let (number, set, plan) = match answer {
+        Ok(pair) => (0, pair.set.len(), pair.plan.len()),
+        Err(number) => (number, 0, 0),
+    };
+    format!("{way} refusal {number} set {set} plan {plan}\n")
 }
 
 #[test]
 fn a_c_program_gets_the_answers() {
     let program = written("club");
     run(compiler().arg("-std=c99").arg(file("tests/c/club.c")).arg(env!("CLUB_ARCHIVE_COPY")).arg("-o").arg(&program));
-    // The listing; a Semi with a note, whose sequences differ from position 2 on; a refusal.
+    // The listing; a Semi with a note, whose sequences differ from position 2 on; a refusal; numbers that do not fit version 1.
     let keys = [one_column(&[1, 2, 4]), one_column(&[1, 2, 3, 5])];
     let noted = semi(0, 1, second::plan::ALWAYS, distinct(&[0], scan(0, 0)), scan(1, 1));
     let inputs = [
@@ -72,6 +85,7 @@ fn a_c_program_gets_the_answers() {
         Input { tables: keys.to_vec(), plan: noted },
         Input { tables: vec![], plan: select(NEVER, scan(0, 0)) },
         Input { tables: vec![], plan: Plan::Unit },
+        Input { tables: vec![one_column(&[2_147_483_647, 5, -LARGEST])], plan: scan(0, 0) },
     ];
     let (set_file, plan_file) = (written("set"), written("plan"));
     for input in inputs {
