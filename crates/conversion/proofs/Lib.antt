@@ -1,0 +1,4 @@
+pub mod Writing
+pub mod TableBytes
+pub mod NodeBytes
+pub mod Outcomes
