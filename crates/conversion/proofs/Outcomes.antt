@@ -59,10 +59,10 @@ module _ (from to : Version) (set plan setOut planOut : List ℕ) where
 
   pub turned-input : (k : ℕ) (r : Converted) → checkAs from set plan ≡ InputRefused k → (r .refusal ≡ k) × (r .set ≡ 0) × (r .plan ≡ 0)
       → ConvertedFrom from to set plan setOut setOut planOut planOut r
+  unfolding convertNumber
   turned-input k r e a = let q = refused-input from set plan k e in turned k r (q .1) (is k (q .1) (q .0)) a
     where
       is : (k : ℕ) → 0 < k → inputRefusalAs from set plan ≡ k → number ≡ k
-      unfolding convertNumber
       is zero h z = absurd (omega arith)
       is (suc k) h z = rw z
 

@@ -1,3 +1,7 @@
+use mathlib.Core.Path.{_≡_, refl, sym, ap, _∙_}
+use Rattle.reading.specs.declared.plan.PlanRead.the-variants.{Nodes}
+use Rattle.reading.proofs.Acceptance.{plan-count, accepted-as}
+use Rattle.conversion.proofs.Outcomes.{accepted-input, turned-input}
 use borrow.Author.Needs.{needs}
 use Rattle.conversion.proofs.convert.convert.Statement.{statement}
 use Rattle.conversion.proofs.convert.convert.Tie as tie
@@ -25,11 +29,17 @@ enum-known-tables c = search needs
 
 -- src/convert.rt:93:14
 convert-accepted-requires : tie.Need-convert-accepted-requires
-convert-accepted-requires c κs = ?
+convert-accepted-requires c κs =
+    let a = c .before .before .before .before .before .before .before .before .before .before .args in
+    let e = sym (c .before .before .before .before .before .check-as .ensures) ∙ c .before .before .before .tables .given .1 in
+    let w = accepted-as (a .from) (a .set .now) (a .plan .now) _ _ _ e in
+    (accepted-input (a .from) (a .set .now) (a .plan .now) _ _ _ e, w .setRead, w .planRead ∙ sym (ap Nodes (plan-count (a .from) (a .plan .now) _ (w .planRead))), w .whole)
 
 -- src/convert.rt:77:1
 returns : tie.Need-returns
-returns c = ?
+returns c =
+    let a = c .before .before .before .before .before .before .before .before .before .args in
+    turned-input (a .from) (a .to) (a .set .now) (a .plan .now) (a .out-set .now) (a .out-plan .now) _ _ (sym (c .before .before .before .before .check-as .ensures) ∙ c .before .before .number .given .1) (c .refused .ensures)
 
 -- src/convert.rt:77:1
 same-length : tie.Need-same-length

@@ -1,5 +1,5 @@
 use borrow.Author.Needs.{needs}
-use Prim.Native.Nat.{ℕ, _+_, _*_, _-_, _≤_}
+use Prim.Native.Nat.{ℕ, _+_, _*_, _-_, _≤_, _<_}
 use native.Mathlib.Omega.{arith}
 use mathlib.Core.Path.{_≡_, refl, sym, ap, ap₂, _∙_}
 use mathlib.Core.List.{List}
@@ -70,9 +70,11 @@ write-node-requires : tie.Need-write-node-requires Inv-loop μ-loop
 write-node-requires c κs =
     let a = c .before .before .before .before .before .before .before .before .before .before .before .before .before .before .before .before .before .before .args in
     let l = c .before .before .loop in
-    let h : l .i < nodesOf (a .plan .now) = omega (arith, l .inv .0) in
-    (node-stands (a .version) (a .plan .now) (c .before .before .before .before .before .before .before .before .before .before .before .before .before .before .before .before .before .before .pre .0) (l .i) h, test-fit (a .version) (a .plan .now) (c .before .before .before .before .before .before .before .before .before .before .before .before .before .before .before .before .before .before .pre .1) (l .i) h,
-    omega (arith, c .before .before .before .before .before .before .before .before .before .before .before .before .before .before .before .before .before .before .pre .2, nodes-room (a .version) (a .plan .now) (c .before .before .before .before .before .before .before .before .before .before .before .before .before .before .before .before .before .before .pre .0) (l .i) h, l .inv .3, c .before .before .before .before .before .before .before .before .before .before .before .before .write-bytes .kept .0, c .before .before .before .before .before .before .before .write-bytes2 .kept .0))
+    let h : l .i < nodesOf (a .plan .now) = omega (arith, l .inv .0) in (
+      node-stands (a .version) (a .plan .now) (c .before .before .before .before .before .before .before .before .before .before .before .before .before .before .before .before .before .before .pre .0) (l .i) h,
+      test-fit (a .version) (a .plan .now) (c .before .before .before .before .before .before .before .before .before .before .before .before .before .before .before .before .before .before .pre .1) (l .i) h,
+      omega (arith, c .before .before .before .before .before .before .before .before .before .before .before .before .before .before .before .before .before .before .pre .2, nodes-room (a .version) (a .plan .now) (c .before .before .before .before .before .before .before .before .before .before .before .before .before .before .before .before .before .before .pre .0) (l .i) h, l .inv .3, c .before .before .before .before .before .before .before .before .before .before .before .before .write-bytes .kept .0, c .before .before .before .before .before .before .before .write-bytes2 .kept .0),
+    )
 
 -- src/plans.rt:118:9
 add-at : tie.Need-add-at Inv-loop μ-loop
@@ -103,11 +105,15 @@ loop-again : tie.Need-loop-again Inv-loop μ-loop
 loop-again c =
     let a = c .before .before .before .before .before .before .before .before .before .before .before .before .before .before .before .before .before .before .before .before .before .args in
     let l = c .before .before .before .before .before .loop in
-    let h : l .i < nodesOf (a .plan .now) = omega (arith, l .inv .0) in
-    (l .inv .0, omega arith, omega (arith, nodes-next (a .version) (a .plan .now) (c .before .before .before .before .before .before .before .before .before .before .before .before .before .before .before .before .before .before .before .before .before .pre .0) (l .i) h, c .before .before .before .before .before .before .node-size .ensures .0), c .before .before .write-node .kept .1 .1 .1 .0 ∙ l .inv .3,
-    c .before .before .write-node .ensures ∙ (ap (λ (s : List ℕ). bytesWritten s (l .at) (nodeIn (a .version) (a .plan .now) (l .i))) (l .inv .4)
-    ∙ flat-written (nodeIn (a .version) (a .plan .now)) (c .before .before .before .before .before .before .before .before .before .before .write-bytes2 .last .0) 6 (l .i) (l .at)
-    (omega (arith, c .before .before .before .before .before .before .before .before .before .before .before .before .before .before .before .before .before .before .before .before .before .pre .2, nodes-room (a .version) (a .plan .now) (c .before .before .before .before .before .before .before .before .before .before .before .before .before .before .before .before .before .before .before .before .before .pre .0) (l .i) h, c .before .before .before .before .before .before .before .before .before .before .before .before .before .before .before .write-bytes .kept .0, c .before .before .before .before .before .before .before .before .before .before .write-bytes2 .kept .0)) (l .inv .2)))
+    let h : l .i < nodesOf (a .plan .now) = omega (arith, l .inv .0) in (
+      l .inv .0,
+      omega arith,
+      omega (arith, nodes-next (a .version) (a .plan .now) (c .before .before .before .before .before .before .before .before .before .before .before .before .before .before .before .before .before .before .before .before .before .pre .0) (l .i) h, c .before .before .before .before .before .before .node-size .ensures .0),
+      c .before .before .write-node .kept .1 .1 .1 .0 ∙ l .inv .3,
+      c .before .before .write-node .ensures ∙ (ap (λ (s : List ℕ). bytesWritten s (l .at) (nodeIn (a .version) (a .plan .now) (l .i))) (l .inv .4)
+          ∙ flat-written (nodeIn (a .version) (a .plan .now)) (c .before .before .before .before .before .before .before .before .before .before .write-bytes2 .last .0) 6 (l .i) (l .at)
+          (omega (arith, c .before .before .before .before .before .before .before .before .before .before .before .before .before .before .before .before .before .before .before .before .before .pre .2, nodes-room (a .version) (a .plan .now) (c .before .before .before .before .before .before .before .before .before .before .before .before .before .before .before .before .before .before .before .before .before .pre .0) (l .i) h, c .before .before .before .before .before .before .before .before .before .before .before .before .before .before .before .write-bytes .kept .0, c .before .before .before .before .before .before .before .before .before .before .write-bytes2 .kept .0)) (l .inv .2)),
+    )
 
 -- src/plans.rt:105:1
 same-length : tie.Need-same-length Inv-loop μ-loop

@@ -47,9 +47,11 @@ returns : tie.Need-returns
 returns c =
     let a = c .before .before .before .before .args in
     let m = mul-le-mul (c .before .columns-of .ensures .1) (c .rows-of .ensures .1) in
-    let n = mul-le-mul (c .before .before .cell-size .ensures .1) m in
-    (ap₂ (λ (x y : ℕ). 8 + x * y) (c .before .before .cell-size .ensures .0) (ap₂ (λ (x y : ℕ). x * y) (c .before .columns-of .ensures .0) (c .rows-of .ensures .0))
-    ∙ sym (table-long (a .version) (a .table .now) (c .before .before .before .before .pre)), omega arith)
+    let n = mul-le-mul (c .before .before .cell-size .ensures .1) m in (
+      ap₂ (λ (x y : ℕ). 8 + x * y) (c .before .before .cell-size .ensures .0) (ap₂ (λ (x y : ℕ). x * y) (c .before .columns-of .ensures .0) (c .rows-of .ensures .0))
+          ∙ sym (table-long (a .version) (a .table .now) (c .before .before .before .before .pre)),
+      omega arith,
+    )
 
 pub table-size-spec : {M : Type 1} → statement M
 table-size-spec =

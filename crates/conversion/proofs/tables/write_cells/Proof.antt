@@ -70,9 +70,10 @@ cell-requires c κs = search needs
 write-number-requires : tie.Need-write-number-requires Inv-loop μ-loop
 write-number-requires c κs =
     let a = c .before .before .before .before .before .before .before .before .before .before .before .args in
-    let l = c .before .before .before .loop in
-    (ap (cellAllowed (a .version)) (word-is (c)) ∙ word-fits (a .version) (a .table .now) (c .before .before .before .before .before .before .before .before .before .before .before .pre .0) (l .i) (omega (arith, l .inv .0)),
-    omega (arith, c .before .before .before .before .before .before .before .before .before .before .before .pre .1, part-room (a .version) (a .table .now) (l .i) (omega (arith, l .inv .0))))
+    let l = c .before .before .before .loop in (
+      ap (cellAllowed (a .version)) (word-is (c)) ∙ word-fits (a .version) (a .table .now) (c .before .before .before .before .before .before .before .before .before .before .before .pre .0) (l .i) (omega (arith, l .inv .0)),
+      omega (arith, c .before .before .before .before .before .before .before .before .before .before .before .pre .1, part-room (a .version) (a .table .now) (l .i) (omega (arith, l .inv .0))),
+    )
 
 -- src/tables.rt:95:9
 add-place : tie.Need-add-place Inv-loop μ-loop
@@ -104,10 +105,14 @@ loop-again c =
     let a = c .before .before .before .before .before .before .before .before .before .before .before .before .before .before .args in
     let l = c .before .before .before .before .before .before .loop in
     let room = part-room (a .version) (a .table .now) (l .i) (omega (arith, l .inv .0)) in
-    let f : ℕ → List ℕ = λ k. numberBytes (a .version) (wordIn (a .table .now) k) in
-    (l .inv .0, omega arith, omega (arith, part-next (a .version) (a .table .now) (l .i), c .before .before .before .before .before .before .before .cell-size .ensures .0), c .before .before .write-number .kept .1 .0 ∙ l .inv .3,
-    c .before .before .write-number .ensures ∙ (ap₂ (λ (s : List ℕ) (w : ℕ). bytesWritten s (l .place) (numberBytes (a .version) w)) (l .inv .4) (word-is (c .before .before .before))
-    ∙ flat-written f (a .out .now) (a .at) (l .i) (l .place) (omega (arith, c .before .before .before .before .before .before .before .before .before .before .before .before .before .before .pre .1)) (l .inv .2)))
+    let f : ℕ → List ℕ = λ k. numberBytes (a .version) (wordIn (a .table .now) k) in (
+      l .inv .0,
+      omega arith,
+      omega (arith, part-next (a .version) (a .table .now) (l .i), c .before .before .before .before .before .before .before .cell-size .ensures .0),
+      c .before .before .write-number .kept .1 .0 ∙ l .inv .3,
+      c .before .before .write-number .ensures ∙ (ap₂ (λ (s : List ℕ) (w : ℕ). bytesWritten s (l .place) (numberBytes (a .version) w)) (l .inv .4) (word-is (c .before .before .before))
+          ∙ flat-written f (a .out .now) (a .at) (l .i) (l .place) (omega (arith, c .before .before .before .before .before .before .before .before .before .before .before .before .before .before .pre .1)) (l .inv .2)),
+    )
 
 -- src/tables.rt:83:1
 same-length : tie.Need-same-length Inv-loop μ-loop

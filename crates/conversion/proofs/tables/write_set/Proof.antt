@@ -41,10 +41,11 @@ table-from-requires c κs = search needs
 write-table-requires : tie.Need-write-table-requires Inv-loop μ-loop
 write-table-requires c κs =
     let a = c .before .before .before .before .before .before .args in
-    let l = c .before .before .before .loop in
-    (rw (c .before .table-from .ensures) (c .before .before .before .before .before .before .pre .0 .long (l .t) (omega arith)),
-    rw (c .before .table-from .ensures) (table-of (a .version) (a .set .now) (a .tables) (c .before .before .before .before .before .before .pre .1) (l .t) (omega arith)),
-    omega (arith, size-is (c .before), set-room (a .version) (a .set .now) (l .t) (a .tables) (omega arith), c .before .before .before .before .before .before .pre .2))
+    let l = c .before .before .before .loop in (
+      rw (c .before .table-from .ensures) (c .before .before .before .before .before .before .pre .0 .long (l .t) (omega arith)),
+      rw (c .before .table-from .ensures) (table-of (a .version) (a .set .now) (a .tables) (c .before .before .before .before .before .before .pre .1) (l .t) (omega arith)),
+      omega (arith, size-is (c .before), set-room (a .version) (a .set .now) (l .t) (a .tables) (omega arith), c .before .before .before .before .before .before .pre .2),
+    )
 
 -- src/tables.rt:121:15
 table-size-requires : tie.Need-table-size-requires Inv-loop μ-loop
@@ -76,10 +77,13 @@ loop-again : tie.Need-loop-again Inv-loop μ-loop
 loop-again c =
     let a = c .before .before .before .before .before .before .before .before .before .before .args in
     let l = c .before .before .before .before .before .before .before .loop in
-    let e = ap length (set-more (a .version) (a .set .now) (l .t)) ∙ length-append (setBytes (a .version) (l .t) (a .set .now)) (tableBytes (a .version) (tableFrom (l .t) (a .set .now))) in
-    (omega arith, omega (arith, e, size-is (c .before .before .before .before .before), c .table-size .ensures .0), c .before .before .before .write-table .kept .1 .1 .0 ∙ l .inv .2,
-    c .before .before .before .write-table .ensures ∙ (ap₂ (λ (s r : List ℕ). bytesWritten s (l .at) (tableBytes (a .version) r)) (l .inv .3) (c .before .before .before .before .before .table-from .ensures)
-    ∙ set-written (a .version) (a .set .now) (a .out .now) (l .t) (l .at) (omega (arith, set-room (a .version) (a .set .now) (l .t) (a .tables) (omega arith), c .before .before .before .before .before .before .before .before .before .before .pre .2)) (l .inv .1)))
+    let e = ap length (set-more (a .version) (a .set .now) (l .t)) ∙ length-append (setBytes (a .version) (l .t) (a .set .now)) (tableBytes (a .version) (tableFrom (l .t) (a .set .now))) in (
+      omega arith,
+      omega (arith, e, size-is (c .before .before .before .before .before), c .table-size .ensures .0),
+      c .before .before .before .write-table .kept .1 .1 .0 ∙ l .inv .2,
+      c .before .before .before .write-table .ensures ∙ (ap₂ (λ (s r : List ℕ). bytesWritten s (l .at) (tableBytes (a .version) r)) (l .inv .3) (c .before .before .before .before .before .table-from .ensures)
+          ∙ set-written (a .version) (a .set .now) (a .out .now) (l .t) (l .at) (omega (arith, set-room (a .version) (a .set .now) (l .t) (a .tables) (omega arith), c .before .before .before .before .before .before .before .before .before .before .pre .2)) (l .inv .1)),
+    )
 
 -- src/tables.rt:112:1
 same-length : tie.Need-same-length Inv-loop μ-loop
