@@ -1,3 +1,4 @@
 pub mod Bytes
+pub mod Helpers
 pub mod Convert
 pub mod Laws

@@ -203,7 +203,7 @@ fn nodes_allowed(version: Version, n: usize, plan: &[u8]) -> bool
     true
 }
 
-fn plan_mark(version: Version) -> [u8; 5]
+pub fn plan_mark(version: Version) -> [u8; 5]
     ensures { λ r. ⌜ r ≡ planMark version ⌝ }
 {
     match version {

@@ -142,7 +142,7 @@ pub fn number_as(version: Version, w: u64) -> bool
 }
 
 // Blank, off scale, or a number in the version's range.
-fn cell_allowed(version: Version, w: u64) -> bool
+pub fn cell_allowed(version: Version, w: u64) -> bool
     ensures { λ r. ⌜ r ≡ cellAllowed version w ⌝ }
 {
     if w == 0 {
@@ -194,7 +194,7 @@ fn cells_allowed(version: Version, cells: &[u8]) -> bool
 
 // ---- A table, as the bytes from its first one on; its header says its version
 
-fn table_mark(version: Version) -> [u8; 5]
+pub fn table_mark(version: Version) -> [u8; 5]
     ensures { λ r. ⌜ r ≡ tableMark version ⌝ }
 {
     match version {
