@@ -54,15 +54,15 @@ fn keep(answer: Converted, set: &[u8], plan: &[u8]) {
     }
 }
 
-fn convert(up: bool, set: &[u8], plan: &[u8]) {
-    let mut out_set = set_bytes();
-    let mut out_plan = [0u8; 2054];
-    let answer = if up {
-        convert_up(set, plan, &mut out_set, &mut out_plan)
-    } else {
-        convert_down(set, plan, &mut out_set, &mut out_plan)
-    };
-    keep(answer, &out_set, &out_plan);
+// Converts one way or the other, with buffers to write in.
+fn convert(up: bool, set: &[u8], plan: &[u8], out_set: &mut [u8], out_plan: &mut [u8]) {
+    if up {
+        let answer = convert_up(set, plan, out_set, out_plan);
+        keep(answer, out_set, out_plan);
+        return;
+    }
+    let answer = convert_down(set, plan, out_set, out_plan);
+    keep(answer, out_set, out_plan);
 }
 
 // The plan's buffer has one byte more than the longest plan, so that a longer file is turned back as the whole of it would be.
@@ -78,5 +78,13 @@ fn main() {
     let mut plan = [0u8; 2055];
     let set_length = read_file(b"club.tbl", &mut set);
     let plan_length = read_file(b"club.rpt", &mut plan);
-    convert(up, head(&set, set_length), head(&plan, plan_length));
+    let mut out_set = set_bytes();
+    let mut out_plan = [0u8; 2054];
+    convert(
+        up,
+        head(&set, set_length),
+        head(&plan, plan_length),
+        &mut out_set,
+        &mut out_plan,
+    );
 }
