@@ -14,9 +14,9 @@ use Rattle.algebra.specs.Places.{Operator, leafNode, unaryNode, binaryNode, siz
 use Rattle.algebra.proofs.Lists.{all-map}
 use Rattle.reading.specs.Bytes.{byteAt, unsignedAt, allBelow}
 use Rattle.reading.specs.Versions.{cellSize, nodeSize, testSize, wordOf, unsignedCode}
-use Rattle.reading.specs.Plan.{testNumber, planVersion, testOf, nodeOf, nodeAt, planMark, nodesOf, readPlanAs}
-use Rattle.reading.specs.Tree.{operatorAt, planOf, wholeTree}
-use Rattle.reading.specs.Encoding.{comparisonByte, markByte, aggregateByte, columnByte, lowBytes, numberBytes, testBytes, noTest, listBytes, fieldBytes, nodeBytesAs, planBytesAs, testWithin, operatorWithin}
+use Rattle.reading.specs.Plan.{planVersion, testOf, nodeOf, nodeAt, planMark, nodesOf, readPlanAs}
+use Rattle.reading.specs.Tree.{operatorAt, wholeTree}
+use Rattle.reading.specs.Encoding.{comparisonByte, markByte, aggregateByte, columnByte, lowBytes, testBytes, noTest, listBytes, fieldBytes, nodeBytesAs, planBytesAs, testWithin, operatorWithin}
 use Rattle.reading.specs.Check.{planNumber}
 use Rattle.reading.specs.declared.version.Version.{Version}
 use Rattle.reading.specs.declared.version.Version.the-variants.{First, Second}

@@ -1,5 +1,5 @@
 -- The converter's number and what it leaves, by the tests in their order. Assumes nothing.
-use Prim.Native.Nat.{ℕ, zero, suc, _+_, _*_, _≤_, _<_}
+use Prim.Native.Nat.{ℕ, zero, suc, _+_, _≤_, _<_}
 use native.Mathlib.Omega.{arith}
 use mathlib.Core.Path.{_≡_, refl, sym, ap, _∙_}
 use mathlib.Core.Bool.{true, false}
@@ -7,13 +7,10 @@ use mathlib.Core.List.{List, _++_}
 use lib.ListN.{length, drop}
 use borrow.Author.Tests.{lt-ltb, le-ltb}
 use Rattle.reading.specs.TableSet.{readSetAs, amountOf}
-use Rattle.reading.specs.Plan.{nodesOf, readPlanAs}
-use Rattle.reading.specs.Tree.{wholeTree}
 use Rattle.reading.specs.Check.{inputRefusalAs, answer, checkAs}
 use Rattle.reading.specs.declared.version.Version.{Version}
 use Rattle.reading.specs.declared.set.SetRead.{SetRead}
 use Rattle.reading.specs.declared.set.SetRead.the-variants.{Holds}
-use Rattle.reading.specs.declared.plan.PlanRead.the-variants.{Nodes}
 use Rattle.reading.specs.declared.input.Checked.the-variants.{Accepted, Refused as InputRefused}
 use Rattle.conversion.specs.Bytes.{setBytes, setFits, planIn, planFits}
 use Rattle.conversion.specs.Convert.{convertedSet, convertNumber, countAfter, bytesAfter, ConvertedFrom}

@@ -1,26 +1,26 @@
 -- The bytes of tables and sets in a version, and their sizes. Assumes nothing.
-use Prim.Native.Nat.{ℕ, zero, suc, _+_, _*_, _^_, _%_, _≤_, _<_}
+use Prim.Native.Nat.{ℕ, zero, suc, _+_, _*_, _%_, _≤_, _<_}
 use native.Mathlib.Omega.{arith}
 use mathlib.Core.Path.{_≡_, refl, sym, ap, ap₂, _∙_}
 use mathlib.Core.Bool.{Bool, true, false}
-use mathlib.Core.List.{List, [], _∷_, _++_, map}
+use mathlib.Core.List.{List, [], _++_, map}
 use lib.Dec.{eqb}
 use lib.ListN.{length, take, drop, length-append, length-drop}
 use lib.Seq.{length-take-le}
-use borrow.Author.Tests.{eq-eqb, ne-eqb}
+use borrow.Author.Tests.{ne-eqb}
 use Rattle.algebra.specs.Lists.{if_then_else_, all, flatMap, upward}
-use Rattle.algebra.specs.Cells.{blank, offScale, origin, withinReach}
+use Rattle.algebra.specs.Cells.{blank, offScale, withinReach}
 use Rattle.algebra.proofs.Lists.{all-map}
 use Rattle.reading.specs.Bytes.{allBelow}
 use Rattle.reading.specs.Versions.{cellSize, unsignedCode}
-use Rattle.reading.specs.TableSet.{tableMark, tableVersion, columnsOf, rowsOf, cellBytes, cellsOf, cellAt, cellAllowed, readTable, readFrom, readSetAs, afterTable, tableFrom}
+use Rattle.reading.specs.TableSet.{tableMark, tableVersion, columnsOf, rowsOf, cellsOf, cellAt, cellAllowed, readTable, readFrom, readSetAs, afterTable, tableFrom}
 use Rattle.reading.specs.Encoding.{lowBytes, numberBytes}
 use Rattle.reading.specs.declared.version.Version.{Version}
 use Rattle.reading.specs.declared.version.Version.the-variants.{First, Second}
 use Rattle.reading.specs.declared.set.SetRead.the-variants.{Holds, Refused}
 use Rattle.reading.specs.declared.set.TableRead.{TableRead}
 use Rattle.reading.specs.declared.set.TableRead.the-variants.{Whole, Bad}
-use Rattle.reading.proofs.VersionLaws.{reach-low, reach-high}
+use Rattle.reading.proofs.VersionLaws.{reach-low}
 use Rattle.reading.proofs.Laws.{accepted-table, all-at}
 use Rattle.reading.proofs.Places.{all-upward, flatMap-map}
 use Rattle.conversion.specs.Bytes.{tableWords, tableBytes, setBytes, setFits}

@@ -5,7 +5,7 @@ use native.Mathlib.Nat.{mul-suc}
 use native.Mathlib.Numerals.{add-one}
 use mathlib.Core.Path.{_≡_, refl, sym, ap, ap₂, _∙_}
 use mathlib.Core.List.{List, [], _∷_, _++_, append-assoc, append-nil}
-use lib.ListN.{length, take, drop, getD, set, length-append, length-drop, take-append-drop}
+use lib.ListN.{length, take, drop, getD, set, length-append, take-append-drop}
 use lib.Seq.{take-suc, drop-cons, drop-drop, set-at, take-at, drop-at, length-take-le, take-all}
 use Rattle.algebra.specs.Lists.{flatMap, upward}
 use Rattle.reading.proofs.Places.{upward-append, upward-more, flatMap-joined}

@@ -1,7 +1,7 @@
 -- What the contracts of the converter's own functions speak of. Definitions only.
 use Prim.Native.Nat.{ℕ, _+_, _*_, _-_, _≤_, _<_}
 use mathlib.Core.Bool.{Bool, true}
-use mathlib.Core.List.{List, [], _∷_, _++_}
+use mathlib.Core.List.{List, _∷_, _++_}
 use lib.ListN.{length, take, drop, replicate}
 use Rattle.algebra.specs.Lists.{flatMap, upward}
 use Rattle.algebra.specs.Cells.{withinReach}

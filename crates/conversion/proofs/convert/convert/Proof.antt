@@ -1,4 +1,4 @@
-use mathlib.Core.Path.{_≡_, refl, sym, ap, _∙_}
+use mathlib.Core.Path.{sym, ap, _∙_}
 use Rattle.reading.specs.declared.plan.PlanRead.the-variants.{Nodes}
 use Rattle.reading.proofs.Acceptance.{plan-count, accepted-as}
 use Rattle.conversion.proofs.Outcomes.{accepted-input, turned-input}

@@ -1,4 +1,3 @@
-use borrow.Author.Tests.{eq-eqb, ne-eqb}
 use Rattle.conversion.proofs.TableBytes.{low-code}
 use Rattle.conversion.proofs.numbers.first_code.Statement.{statement}
 use Rattle.conversion.proofs.numbers.first_code.Tie as tie

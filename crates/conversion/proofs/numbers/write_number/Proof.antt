@@ -1,6 +1,6 @@
 use native.Mathlib.Omega.{arith}
 use mathlib.Core.Path.{_≡_, ap, _∙_}
-use Prim.Native.Nat.{ℕ, _-_}
+use Prim.Native.Nat.{_-_}
 use Rattle.reading.specs.Versions.{cellSize}
 use Rattle.conversion.specs.Helpers.{bytesWritten}
 use Rattle.conversion.proofs.TableBytes.{number-part}

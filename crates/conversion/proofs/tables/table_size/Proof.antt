@@ -1,7 +1,7 @@
 use Prim.Native.Nat.{ℕ, _+_, _*_}
 use native.Mathlib.Omega.{arith}
 use native.Mathlib.Nat.{mul-le-mul}
-use mathlib.Core.Path.{_≡_, sym, ap, ap₂, _∙_}
+use mathlib.Core.Path.{sym, ap, ap₂, _∙_}
 use Rattle.conversion.proofs.TableBytes.{table-long}
 use borrow.Author.Needs.{needs}
 use Rattle.conversion.proofs.tables.table_size.Statement.{statement}

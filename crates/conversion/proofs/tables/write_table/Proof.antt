@@ -1,5 +1,5 @@
 use native.Mathlib.Omega.{arith}
-use mathlib.Core.Path.{_≡_, refl, ap}
+use mathlib.Core.Path.{refl, ap}
 use lib.ListN.{length, length-take}
 use Rattle.conversion.proofs.TableBytes.{table-long, table-written}
 use borrow.Author.Needs.{needs}
