@@ -8,8 +8,9 @@
  * so many elements can be read, and those of out, out_set, out_plan, out_steps and scratch written; and a buffer that is written overlaps no
  * other. No call allocates, keeps a pointer, or fails in any other way than by a refusal number.
  *
- * Tables and plans are of version 2, but for those that the converter takes up from version 1 and gives back in it. A cell is a signed 64-bit code: a number from -9,000,000,000,000,000 to 9,000,000,000,000,000, or one of the
- * two codes below. A set has at most 1,024,064 bytes, a plan at most 2,054.
+ * Tables and plans are of version 2, but for those that the converter takes up from version 1 and gives back in it. A cell is a signed
+ * 64-bit code: a number from -9,000,000,000,000,000 to 9,000,000,000,000,000, or one of the two codes below. A set has at most 1,024,064
+ * bytes, a plan at most 2,054. In the converter 2 and 7 mean: not the version that it takes.
  *
  * Each call gives one 64-bit word. Its low byte is the refusal, 0 for none; a refused call gives its number alone. Which answer is the
  * right one, for any input, is in docs/DEFINITION.md.
