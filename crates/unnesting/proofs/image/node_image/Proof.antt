@@ -40,67 +40,67 @@ array-read-t23 c = search needs
 array-read-t26 : tie.Need-array-read-t26
 array-read-t26 c = search needs
 
--- src/image.rt:77:9
+-- src/image.rt:119:9
 array-read-t29 : tie.Need-array-read-t29
 array-read-t29 c = search needs
 
--- src/image.rt:78:9
+-- src/image.rt:120:9
 array-read-t32 : tie.Need-array-read-t32
 array-read-t32 c = search needs
 
--- src/image.rt:79:9
+-- src/image.rt:121:9
 array-read-t35 : tie.Need-array-read-t35
 array-read-t35 c = search needs
 
--- src/image.rt:80:9
+-- src/image.rt:122:9
 array-read-t38 : tie.Need-array-read-t38
 array-read-t38 c = search needs
 
--- src/image.rt:81:9
+-- src/image.rt:123:9
 array-read-t41 : tie.Need-array-read-t41
 array-read-t41 c = search needs
 
--- src/image.rt:82:9
+-- src/image.rt:124:9
 array-read-t44 : tie.Need-array-read-t44
 array-read-t44 c = search needs
 
--- src/image.rt:83:9
+-- src/image.rt:125:9
 array-read-t47 : tie.Need-array-read-t47
 array-read-t47 c = search needs
 
--- src/image.rt:84:9
+-- src/image.rt:126:9
 array-read-t50 : tie.Need-array-read-t50
 array-read-t50 c = search needs
 
--- src/image.rt
+-- src/image.rt:127:9
 array-read-t53 : tie.Need-array-read-t53
 array-read-t53 c = search needs
 
--- src/image.rt
+-- src/image.rt:128:9
 array-read-t56 : tie.Need-array-read-t56
 array-read-t56 c = search needs
 
--- src/image.rt
+-- src/image.rt:129:9
 array-read-t59 : tie.Need-array-read-t59
 array-read-t59 c = search needs
 
--- src/image.rt
+-- src/image.rt:130:9
 array-read-t62 : tie.Need-array-read-t62
 array-read-t62 c = search needs
 
--- src/image.rt
+-- src/image.rt:131:9
 array-read-t65 : tie.Need-array-read-t65
 array-read-t65 c = search needs
 
--- src/image.rt
+-- src/image.rt:132:9
 array-read-t68 : tie.Need-array-read-t68
 array-read-t68 c = search needs
 
--- src/image.rt
+-- src/image.rt:133:9
 array-read-t71 : tie.Need-array-read-t71
 array-read-t71 c = search needs
 
--- src/image.rt
+-- src/image.rt:134:9
 array-read-t74 : tie.Need-array-read-t74
 array-read-t74 c = search needs
 

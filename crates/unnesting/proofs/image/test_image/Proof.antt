@@ -26,35 +26,35 @@ enum-known-test-2 c = search needs
 number-bytes-requires : tie.Need-number-bytes-requires
 number-bytes-requires c κs = search needs
 
--- src/image.rt:48:41
+-- src/image.rt:78:17
 array-read-t15 : tie.Need-array-read-t15
 array-read-t15 c = search needs
 
--- src/image.rt:48:50
+-- src/image.rt:79:17
 array-read-t18 : tie.Need-array-read-t18
 array-read-t18 c = search needs
 
--- src/image.rt:48:59
+-- src/image.rt:80:17
 array-read-t21 : tie.Need-array-read-t21
 array-read-t21 c = search needs
 
--- src/image.rt:48:68
+-- src/image.rt:81:17
 array-read-t24 : tie.Need-array-read-t24
 array-read-t24 c = search needs
 
--- src/image.rt
+-- src/image.rt:82:17
 array-read-t27 : tie.Need-array-read-t27
 array-read-t27 c = search needs
 
--- src/image.rt
+-- src/image.rt:83:17
 array-read-t30 : tie.Need-array-read-t30
 array-read-t30 c = search needs
 
--- src/image.rt
+-- src/image.rt:84:17
 array-read-t33 : tie.Need-array-read-t33
 array-read-t33 c = search needs
 
--- src/image.rt
+-- src/image.rt:85:17
 array-read-t36 : tie.Need-array-read-t36
 array-read-t36 c = search needs
 
