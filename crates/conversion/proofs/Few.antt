@@ -52,7 +52,7 @@ tables-long f most (suc n) k h =
     )
 
 module _ (from to : Version) (set plan : List ℕ) (a : inputRefusalAs from set plan ≡ 0) where
-  set-few : length (convertedSet from to set plan) ≤ 1024064
+  set-few : length (convertedSet from to set) ≤ 1024064
   unfolding setBytes
   set-few =
       let m : ℕ = amountOf (readSetAs from set) in
@@ -74,7 +74,7 @@ unfolding convertNumber
 converted-few from to set plan setOut setOut′ planOut planOut′ r e =
     let z : ℕ = convertNumber from to set plan (length setOut) (length planOut) in
     let a : z ≡ 0 → inputRefusalAs from set plan ≡ 0 = λ h. first (inputRefusalAs from set plan) _ h in
-    let s : countAfter z (length (convertedSet from to set plan)) ≤ 1024064 = few z _ 1024064 (λ h. set-few from to set plan (a h)) in
+    let s : countAfter z (length (convertedSet from to set)) ≤ 1024064 = few z _ 1024064 (λ h. set-few from to set plan (a h)) in
     let p : countAfter z (length (planIn to plan)) ≤ 2054 = few z _ 2054 (λ h. plan-few from to set plan (a h)) in
     (omega (arith, e .setCount, s), omega (arith, e .planCount, p))
   where

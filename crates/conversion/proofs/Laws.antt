@@ -102,7 +102,7 @@ module _ (from : Version) (set plan : List ℕ) (setSmall : AllBytes set) (planS
 
     -- the set and the plan in version `to`
     abbrev S : List ℕ
-    S = convertedSet from to set plan
+    S = convertedSet from to set
 
     abbrev P : List ℕ
     P = planIn to plan
@@ -168,12 +168,12 @@ module _ (set plan : List ℕ) (setSmall : AllBytes set) (planSmall : AllBytes p
   up-kept : Kept First Second set plan
   up-kept = kept First set plan setSmall planSmall ok Second up-fits
 
-  up-columns : columns (tablesAs Second (convertedSet First Second set plan)) (planOf (planIn Second plan)) ≡ columns (tablesAs First set) (planOf plan)
+  up-columns : columns (tablesAs Second (convertedSet First Second set)) (planOf (planIn Second plan)) ≡ columns (tablesAs First set) (planOf plan)
   up-columns = ap₂ columns (up-kept .tables) (up-kept .tree)
 
   -- the rows, where no sum leaves version 1's range
   up-rows : sumsStay (reachOf First) (tablesAs First set) (planOf plan) outside ≡ true
-      → evalWithin (reachOf Second) (tablesAs Second (convertedSet First Second set plan)) (planOf (planIn Second plan)) outside
+      → evalWithin (reachOf Second) (tablesAs Second (convertedSet First Second set)) (planOf (planIn Second plan)) outside
       ≡ evalWithin (reachOf First) (tablesAs First set) (planOf plan) outside
   up-rows stays =
       ap₂ (λ (T : Tables) (p : Plan). evalWithin (reachOf Second) T p outside) (up-kept .tables) (up-kept .tree)

@@ -48,9 +48,9 @@ module _ (from to : Version) (set plan setOut planOut : List ℕ) where
   turned (suc k) r h e a =
       record {
         number = a .0 ∙ sym e;
-        setCount = a .1 ∙ sym (ap (λ (m : ℕ). countAfter m (length (convertedSet from to set plan))) e);
+        setCount = a .1 ∙ sym (ap (λ (m : ℕ). countAfter m (length (convertedSet from to set))) e);
         planCount = a .2 ∙ sym (ap (λ (m : ℕ). countAfter m (length (planIn to plan))) e);
-        setOutput = sym (ap (λ (m : ℕ). bytesAfter m (convertedSet from to set plan) setOut) e);
+        setOutput = sym (ap (λ (m : ℕ). bytesAfter m (convertedSet from to set) setOut) e);
         planOutput = sym (ap (λ (m : ℕ). bytesAfter m (planIn to plan) planOut) e);
       }
 
@@ -65,7 +65,7 @@ module _ (from to : Version) (set plan setOut planOut : List ℕ) where
 
   -- an input that 1 to 14 do not turn back
   module _ (tables : ℕ) (a : inputRefusalAs from set plan ≡ 0) (s : readSetAs from set ≡ Holds tables) where
-    set-is : convertedSet from to set plan ≡ setBytes to tables set
+    set-is : convertedSet from to set ≡ setBytes to tables set
     set-is = ap (λ (r : SetRead). setBytes to (amountOf r) set) s
 
     pub number-set : setFits to tables set ≡ false → number ≡ 25
@@ -99,9 +99,9 @@ module _ (from to : Version) (set plan setOut planOut : List ℕ) where
               let e = number-none l in
               record {
                 number = p ∙ sym e;
-                setCount = q ∙ (ap length (sym set-is) ∙ sym (ap (λ (m : ℕ). countAfter m (length (convertedSet from to set plan))) e));
+                setCount = q ∙ (ap length (sym set-is) ∙ sym (ap (λ (m : ℕ). countAfter m (length (convertedSet from to set))) e));
                 planCount = w ∙ sym (ap (λ (m : ℕ). countAfter m (length (planIn to plan))) e);
-                setOutput = x ∙ (whole (setBytes to tables set) setOut ∙ (ap (λ (b : List ℕ). b ++ drop (length b) setOut) (sym set-is) ∙ sym (ap (λ (m : ℕ). bytesAfter m (convertedSet from to set plan) setOut) e)));
+                setOutput = x ∙ (whole (setBytes to tables set) setOut ∙ (ap (λ (b : List ℕ). b ++ drop (length b) setOut) (sym set-is) ∙ sym (ap (λ (m : ℕ). bytesAfter m (convertedSet from to set) setOut) e)));
                 planOutput = y ∙ (whole (planIn to plan) planOut ∙ sym (ap (λ (m : ℕ). bytesAfter m (planIn to plan) planOut) e));
               }
             where

@@ -12,20 +12,20 @@ use Rattle.reading.specs.declared.version.Version.{Version}
 use Rattle.conversion.specs.Bytes.{setBytes, setFits, planIn, planFits}
 use Rattle.conversion.specs.declared.convert.Converted.{Converted}
 
--- a set and a plan that are read as version `from`, written in version `to`
+-- a set that is read as version `from`, written in version `to`
+abbrev pub convertedSet : Version → Version → List ℕ → List ℕ
+convertedSet from to set = setBytes to (amountOf (readSetAs from set)) set
+
+-- ---- the number, for a set and a plan of version `from`, written in version `to`
+
 module _ (from to : Version) (set plan : List ℕ) where
-  abbrev pub convertedSet : List ℕ
-  convertedSet = setBytes to (amountOf (readSetAs from set)) set
-
-  -- ---- the number
-
   -- 25: a number of a cell or of a test does not fit
   abbrev pub fitNumber : ℕ
   fitNumber = if setFits to (amountOf (readSetAs from set)) set && planFits to plan then 0 else 25
 
   -- 15: either buffer is short
   abbrev pub roomNumber : ℕ → ℕ → ℕ
-  roomNumber setRoom planRoom = if ltb setRoom (length convertedSet) || ltb planRoom (length (planIn to plan)) then 15 else 0
+  roomNumber setRoom planRoom = if ltb setRoom (length (convertedSet from to set)) || ltb planRoom (length (planIn to plan)) then 15 else 0
 
   -- 1 to 14 of the version that is taken, then 25, then 15; 0 where nothing is turned back
   unfoldable pub convertNumber : ℕ → ℕ → ℕ
@@ -46,7 +46,7 @@ bytesAfter (suc number) bytes out = out
 -- ---- the whole answer: r is returned, and the two outputs become setOut′ and planOut′
 pub record ConvertedFrom (from to : Version) (set plan setOut setOut′ planOut planOut′ : List ℕ) (r : Converted) : Type 0 where
   pub number : r .refusal ≡ convertNumber from to set plan (length setOut) (length planOut)
-  pub setCount : r .set ≡ countAfter (convertNumber from to set plan (length setOut) (length planOut)) (length (convertedSet from to set plan))
+  pub setCount : r .set ≡ countAfter (convertNumber from to set plan (length setOut) (length planOut)) (length (convertedSet from to set))
   pub planCount : r .plan ≡ countAfter (convertNumber from to set plan (length setOut) (length planOut)) (length (planIn to plan))
-  pub setOutput : setOut′ ≡ bytesAfter (convertNumber from to set plan (length setOut) (length planOut)) (convertedSet from to set plan) setOut
+  pub setOutput : setOut′ ≡ bytesAfter (convertNumber from to set plan (length setOut) (length planOut)) (convertedSet from to set) setOut
   pub planOutput : planOut′ ≡ bytesAfter (convertNumber from to set plan (length setOut) (length planOut)) (planIn to plan) planOut

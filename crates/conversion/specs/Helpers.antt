@@ -1,18 +1,30 @@
 -- What the contracts of the converter's own functions speak of. Definitions only.
 use Prim.Native.Nat.{ℕ, _+_, _*_, _-_, _≤_, _<_}
 use mathlib.Core.Bool.{Bool, true}
+use mathlib.Core.Path.{_≡_}
 use mathlib.Core.List.{List, _∷_, _++_}
 use lib.ListN.{length, take, drop, replicate}
 use Rattle.algebra.specs.Lists.{flatMap, upward}
 use Rattle.algebra.specs.Cells.{withinReach}
 use Rattle.reading.specs.Bytes.{allBelow}
 use Rattle.reading.specs.Versions.{cellSize, nodeSize, testSize, reachOf}
-use Rattle.reading.specs.TableSet.{columnsOf, rowsOf, tableFrom}
-use Rattle.reading.specs.Plan.{planVersion, nodeAt, nodesOf, planMark}
+use Rattle.reading.specs.TableSet.{readSetAs, columnsOf, rowsOf, tableFrom}
+use Rattle.reading.specs.Plan.{planVersion, readPlanAs, nodeAt, nodesOf, planMark}
+use Rattle.reading.specs.Tree.{wholeTree}
+use Rattle.reading.specs.Check.{inputRefusalAs}
 use Rattle.reading.specs.Encoding.{numberBytes}
 use Rattle.reading.specs.declared.version.Version.{Version}
+use Rattle.reading.specs.declared.set.SetRead.the-variants.{Holds}
+use Rattle.reading.specs.declared.plan.PlanRead.the-variants.{Nodes}
 use Rattle.reading.specs.declared.plan.Test.{Test}
 use Rattle.reading.specs.declared.plan.Test.the-variants.{Always, Columns, Number}
+
+-- a set and a plan that 1 to 14 of version v do not turn back, and what was read of them
+pub record AcceptedAs (v : Version) (set plan : List ℕ) (tables : ℕ) : Type 0 where
+  pub accepted : inputRefusalAs v set plan ≡ 0
+  pub setRead : readSetAs v set ≡ Holds tables
+  pub planRead : readPlanAs v plan ≡ Nodes (nodesOf plan)
+  pub whole : wholeTree plan ≡ true
 
 -- out with the bytes from a place on
 abbrev pub bytesWritten : List ℕ → ℕ → List ℕ → List ℕ
@@ -29,6 +41,10 @@ pub record Headed (n : ℕ) (set : List ℕ) : Type 0 where
   pub long : (t : ℕ) → t < n → 8 ≤ length (tableFrom t set)
 
 -- ---- plans
+
+-- the place after node i
+abbrev pub nodeEnd : List ℕ → ℕ → ℕ
+nodeEnd plan i = 6 + nodeSize (planVersion plan) * i + nodeSize (planVersion plan)
 
 -- a test's number can be written in version v
 abbrev pub testFits : Version → Test → Bool

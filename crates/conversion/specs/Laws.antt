@@ -23,11 +23,11 @@ AllBytes s = (k : ℕ) → getD s k 0 < 256
 -- What is kept of a set and a plan of version `from` in version `to`: they are accepted, with the same tables and the same tree, and the way
 -- back gives the same bytes.
 pub record Kept (from to : Version) (set plan : List ℕ) : Type 0 where
-  pub accepted : inputRefusalAs to (convertedSet from to set plan) (planIn to plan) ≡ 0
-  pub tables : tablesAs to (convertedSet from to set plan) ≡ tablesAs from set
+  pub accepted : inputRefusalAs to (convertedSet from to set) (planIn to plan) ≡ 0
+  pub tables : tablesAs to (convertedSet from to set) ≡ tablesAs from set
   pub tree : planOf (planIn to plan) ≡ planOf plan
-  pub fitsBack : fitNumber to from (convertedSet from to set plan) (planIn to plan) ≡ 0
-  pub setBack : convertedSet to from (convertedSet from to set plan) (planIn to plan) ≡ set
+  pub fitsBack : fitNumber to from (convertedSet from to set) (planIn to plan) ≡ 0
+  pub setBack : convertedSet to from (convertedSet from to set) ≡ set
   pub planBack : planIn from (planIn to plan) ≡ plan
 
 pub record Conversion : Type 1 where
@@ -39,6 +39,6 @@ pub record Conversion : Type 1 where
   -- the report of a pair that was taken up has the columns and the rows of the old report, wherever no sum leaves version 1's range at any node
   pub sameReport : (set plan : List ℕ) → AllBytes set → AllBytes plan → inputRefusalAs First set plan ≡ 0
       → sumsStay (reachOf First) (tablesAs First set) (planOf plan) outside ≡ true
-      → (columns (tablesAs Second (convertedSet First Second set plan)) (planOf (planIn Second plan)) ≡ columns (tablesAs First set) (planOf plan))
-      × (evalWithin (reachOf Second) (tablesAs Second (convertedSet First Second set plan)) (planOf (planIn Second plan)) outside
+      → (columns (tablesAs Second (convertedSet First Second set)) (planOf (planIn Second plan)) ≡ columns (tablesAs First set) (planOf plan))
+      × (evalWithin (reachOf Second) (tablesAs Second (convertedSet First Second set)) (planOf (planIn Second plan)) outside
       ≡ evalWithin (reachOf First) (tablesAs First set) (planOf plan) outside)

@@ -1,13 +1,7 @@
 // The converter's two calls.
-ghost use mathlib.Core.Bool.{true};
 ghost use mathlib.Core.Path.{_≡_};
-ghost use Rattle.reading.specs.TableSet.{readSetAs};
-ghost use Rattle.reading.specs.Plan.{nodesOf, readPlanAs};
-ghost use Rattle.reading.specs.Tree.{wholeTree};
-ghost use Rattle.reading.specs.Check.{inputRefusalAs};
 ghost use Rattle.reading.specs.declared.version.Version.the-variants.{First, Second};
-ghost use Rattle.reading.specs.declared.set.SetRead.the-variants.{Holds};
-ghost use Rattle.reading.specs.declared.plan.PlanRead.the-variants.{Nodes};
+ghost use Rattle.conversion.specs.Helpers.{AcceptedAs};
 ghost use Rattle.conversion.specs.Convert.{ConvertedFrom};
 use crate::plans::plan_fits;
 use crate::plans::plan_size;
@@ -47,7 +41,7 @@ fn convert_accepted(
     out_set: &mut [u8],
     out_plan: &mut [u8],
 ) -> Converted
-    requires { ⌜ (inputRefusalAs from (now set) (now plan) ≡ 0) × (readSetAs from (now set) ≡ Holds tables) × (readPlanAs from (now plan) ≡ Nodes (nodesOf (now plan))) × (wholeTree (now plan) ≡ true) ⌝ }
+    requires { ⌜ AcceptedAs from (now set) (now plan) tables ⌝ }
     ensures { λ r. ⌜ ConvertedFrom from to (now (set .entry)) (now (plan .entry)) (now («out_set» .entry)) (now («out_set» .exit)) (now («out_plan» .entry)) (now («out_plan» .exit)) r ⌝ }
 {
     if !set_fits(to, set, tables) {

@@ -5,7 +5,7 @@ ghost use Prim.Native.Nat.{_+_, _*_, _-_, _≤_, _<_};
 ghost use lib.ListN.{length, take};
 ghost use Rattle.reading.specs.Versions.{nodeSize};
 ghost use Rattle.reading.specs.Plan.{planVersion, nodeAt, nodesOf};
-ghost use Rattle.conversion.specs.Helpers.{bytesWritten, testFits, testTail, nodesFit, nodeIn, nodesIn};
+ghost use Rattle.conversion.specs.Helpers.{bytesWritten, nodeEnd, testFits, testTail, nodesFit, nodeIn, nodesIn};
 use crate::numbers::code_of;
 use crate::numbers::low_bytes;
 use crate::numbers::write_bytes;
@@ -89,7 +89,7 @@ fn test_tail(version: Version, test: Test) -> [u8; 12]
 
 // Writes node i from a place on: its bytes 0 to 19 as they are, and the rest by its test.
 fn write_node(version: Version, plan: &[u8], i: usize, out: &mut [u8], at: usize)
-    requires { ⌜ (6 + nodeSize (planVersion (now plan)) * i + nodeSize (planVersion (now plan)) ≤ length (now plan)) × (testFits version (nodeAt (now plan) i .test) ≡ true) × (at + nodeSize version ≤ length (now out)) ⌝ }
+    requires { ⌜ (nodeEnd (now plan) i ≤ length (now plan)) × (testFits version (nodeAt (now plan) i .test) ≡ true) × (at + nodeSize version ≤ length (now out)) ⌝ }
     ensures { λ _. ⌜ now (out .exit) ≡ bytesWritten (now (out .entry)) at (nodeIn version (now (plan .entry)) i) ⌝ }
 {
     let start = 6 + node_size(version_at(plan)) * i;
