@@ -19,4 +19,5 @@ pub mod StandLaws
 pub mod CandidateLaws
 pub mod AttemptLaws
 pub mod RunLaws
+pub mod FollowLaws
 pub mod NoteLaws

@@ -34,6 +34,47 @@ front-part out s n h =
     let l : length (take n s) ≡ n = length-take-le n s h in
     rw z (ap (λ (k : ℕ). take k (bytesWritten out 0 (take n s))) (sym l) ∙ front-written out (take n s))
 
+-- ---- a plan that is held
+
+-- the plan given, at the front of a buffer
+pub stored-given : (set plan : List ℕ) → inputRefusal set plan ≡ 0 → (current : List ℕ) (cells : ℕ) → passes (tablesOf set) (planOf plan) ≡ true → cells ≡ need (tablesOf set) (planOf plan)
+    → take (length plan) current ≡ plan → Stored set current (length plan) cells (planOf plan)
+stored-given set plan input current cells passed e f =
+    let b : plan ≡ planBytes (planOf plan) = accepted-bytes set plan (input-parts set plan input .1) in
+    let k = plan-passed set plan (input-parts set plan input .1) .known in
+    record {
+      bytes = f ∙ b;
+      short = omega (arith, k .long, k .most);
+      allowed = ap (inputRefusal set) (sym b) ∙ input;
+      passed = passed;
+      read = ap planOf (sym b);
+      needed = e;
+    }
+
+-- the plan after a step, copied from one buffer to another
+pub stored-moved : (set next current : List ℕ) (long cells : ℕ) (q : Plan) → Stored set next long cells q → take long current ≡ take long next → Stored set current long cells q
+stored-moved set next current long cells q s e = record { bytes = e ∙ s .bytes; short = s .short; allowed = s .allowed; passed = s .passed; read = s .read; needed = s .needed }
+
+-- it is accepted, with its need
+pub record Held (set slice : List ℕ) (needed : ℕ) (q : Plan) : Type 0 where
+  pub allowed : inputRefusal set slice ≡ 0
+  pub tree : planOf slice ≡ q
+  pub passed : passes (tablesOf set) (planOf slice) ≡ true
+  pub needs : needed ≡ need (tablesOf set) (planOf slice)
+
+pub held : (set current slice : List ℕ) (long needed : ℕ) (q : Plan) → Stored set current long needed q → slice ≡ take long current → Held set slice needed q
+held set current slice long needed q s e =
+    let b : slice ≡ planBytes q = e ∙ s .bytes in
+    let t : planOf slice ≡ q = ap planOf b ∙ s .read in
+    record {
+      allowed = ap (inputRefusal set) b ∙ s .allowed;
+      tree = t;
+      passed = ap (passes (tablesOf set)) t ∙ s .passed;
+      needs = s .needed ∙ sym (ap (need (tablesOf set)) t);
+    }
+
+-- ---- the run
+
 -- the steps us have led to the plan q, which is held with its need; m is the largest need so far
 pub record Running (set plan : List ℕ) (room : ℕ) (current steps : List ℕ) (long needed count : ℕ) : Type 0 where
   pub us : List Step
@@ -49,42 +90,15 @@ module _ (set plan : List ℕ) (input : inputRefusal set plan ≡ 0) where
   pub running-start : (room : ℕ) (current steps : List ℕ) (cells : ℕ) → passes (tablesOf set) (planOf plan) ≡ true → cells ≡ need (tablesOf set) (planOf plan)
       → take (length plan) current ≡ plan → Running set plan room current steps (length plan) cells 0
   running-start room current steps cells passed e f =
-      let T = tablesOf set in
-      let b : plan ≡ planBytes (planOf plan) = accepted-bytes set plan (input-parts set plan input .1) in
-      let k = plan-passed set plan (input-parts set plan input .1) .known in
       record {
         us = [];
         q = planOf plan;
-        m = need T (planOf plan);
-        leads = leads-start T (planOf plan);
-        stored = record {
-          bytes = f ∙ b;
-          short = omega (arith, k .long, k .most);
-          allowed = ap (inputRefusal set) (sym b) ∙ input;
-          passed = passed;
-          read = ap planOf (sym b);
-          needed = e;
-        };
+        m = need (tablesOf set) (planOf plan);
+        leads = leads-start (tablesOf set) (planOf plan);
+        stored = stored-given set plan input current cells passed e f;
         written = refl;
         counted = refl;
         most = omega arith;
-      }
-
-  -- the plan that is held is accepted, with its need
-  pub record Held (slice : List ℕ) (needed : ℕ) : Type 0 where
-    pub allowed : inputRefusal set slice ≡ 0
-    pub passed : passes (tablesOf set) (planOf slice) ≡ true
-    pub needs : needed ≡ need (tablesOf set) (planOf slice)
-
-  pub held : (room : ℕ) (current steps slice : List ℕ) (long needed count : ℕ) → Running set plan room current steps long needed count → slice ≡ take long current → Held slice needed
-  held room current steps slice long needed count r e =
-      let s = r .stored in
-      let b : slice ≡ planBytes (r .q) = e ∙ s .bytes in
-      let t : planOf slice ≡ r .q = ap planOf b ∙ s .read in
-      record {
-        allowed = ap (inputRefusal set) b ∙ s .allowed;
-        passed = ap (passes (tablesOf set)) t ∙ s .passed;
-        needs = s .needed ∙ sym (ap (need (tablesOf set)) t);
       }
 
   -- no run has more steps than the plan given weighs
@@ -109,7 +123,7 @@ module _ (set plan : List ℕ) (input : inputRefusal set plan ≡ 0) where
 
     module _ (is : slice ≡ take long current) (fits : needed ≤ room) where
       slice-tree : planOf slice ≡ r .q
-      slice-tree = ap planOf (is ∙ r .stored .bytes) ∙ r .stored .read
+      slice-tree = held set current slice long needed (r .q) (r .stored) is .tree
 
       -- where no rule fits, the run has ended
       pub running-end : length current ≡ 2086 → ((i : ℕ) → Still (tablesOf set) (planOf slice) i) → Ends set plan room current steps count long
@@ -146,7 +160,7 @@ module _ (set plan : List ℕ) (input : inputRefusal set plan ≡ 0) where
               q = found .left .after;
               m = max (r .m) (need (tablesOf set) (found .left .after));
               leads = found-leads;
-              stored = record { bytes = e ∙ s .bytes; short = s .short; allowed = s .allowed; passed = s .passed; read = s .read; needed = s .needed };
+              stored = stored-moved set next current′ long′ needed′ (found .left .after) s e;
               written = f ∙ (ap (λ (bs : List ℕ). bs ++ (rule ∷ place ∷ [])) (r .written) ∙ sym (flatMap-joined (λ (s : Step). s .number ∷ s .place ∷ []) (r .us) (step ∷ [])));
               counted = length-append (r .us) (step ∷ []) ∙ omega (arith, r .counted);
               most = omega (arith, r .most, s .needed);

@@ -19,7 +19,8 @@ use Rattle.unnesting.specs.Images.{bytesWritten}
 
 -- ---- the plans passed through
 
-passed-first : (T : Tables) (ss : List Step) (p : Plan) → need T p ≤ largest (map (need T) (passedThrough T ss p))
+-- the given plan is one of them
+pub passed-first : (T : Tables) (ss : List Step) (p : Plan) → need T p ≤ largest (map (need T) (passedThrough T ss p))
 unfolding passedThrough
 passed-first T [] p = omega arith
 passed-first T (s ∷ ss) p = omega arith

@@ -1,5 +1,5 @@
 -- Plans held as bytes while the rules are tried, one step after another. The contracts of helpers speak of these; trying a step is the
--- algebra's `attempt`, and the calls' answers are in `Unnest` and `StayNote`. Definitions only.
+-- algebra's `attempt`, and the calls' answers are in `Unnest`, `StayNote` and `CheckSteps`. Definitions only.
 use Prim.Native.Nat.{ℕ, _*_, _≤_, _<_}
 use mathlib.Core.Bool.{Bool, true, false}
 use mathlib.Core.Path.{_≡_}
@@ -10,18 +10,22 @@ use Rattle.algebra.specs.Plans.{Tables, Plan}
 use Rattle.algebra.specs.Places.{modify}
 use Rattle.algebra.specs.Refusals.{need, passes}
 use Rattle.algebra.specs.Rules.{fresh}
-use Rattle.algebra.specs.Steps.{accepted, attempt}
+use Rattle.algebra.specs.Steps.{accepted, attempt, fitted}
 use Rattle.algebra.specs.Demand3.{Still}
 use Rattle.reading.specs.TableSet.{tablesOf}
 use Rattle.reading.specs.Encoding.{planBytes}
 use Rattle.reading.specs.Tree.{planOf}
 use Rattle.reading.specs.Check.{inputRefusal}
 use Rattle.unnesting.specs.Unnest.{unnestSteps, unnestNeed, writtenSteps, writtenPlan}
+use Rattle.unnesting.specs.Demand3.{bytesLeft}
+use Rattle.unnesting.specs.CheckSteps.{listed, reachedNeed}
 use Rattle.unnesting.specs.Shapes.{shape}
 use Rattle.unnesting.specs.declared.step.Tried.{Tried}
 use Rattle.unnesting.specs.declared.step.Tried.the-variants.{No, Yes}
 use Rattle.unnesting.specs.declared.step.Found.{Found}
 use Rattle.unnesting.specs.declared.step.Found.the-variants.{Nothing, Step as FoundStep}
+use Rattle.unnesting.specs.declared.follow.Followed.{Followed}
+use Rattle.unnesting.specs.declared.follow.Followed.the-variants.{Short, Unfit, Last}
 
 -- the plan after the rule at a place, where rows do not stand against it and it passes 8 to 14
 abbrev pub possible : Tables → Plan → ℕ → Option Plan
@@ -70,3 +74,22 @@ pub record Ends (set plan : List ℕ) (room : ℕ) (current steps : List ℕ) (c
 abbrev pub Runs : Bool → List ℕ → List ℕ → ℕ → List ℕ → List ℕ → ℕ → ℕ → Type 0
 Runs true set plan room current steps count long = Ends set plan room current steps count long
 Runs false set plan room current steps count long = room < unnestNeed set plan
+
+-- ---- a list of steps followed
+
+-- Where scratch has so many cells, enough for every plan reached and each step fits in its turn: the plan left stands at the front of a buffer.
+pub record Arrives (set plan steps : List ℕ) (room : ℕ) (current : List ℕ) (long : ℕ) : Type 0 where
+  pub enough : reachedNeed set plan steps ≤ room
+  pub every : fitted (tablesOf set) (listed steps) (planOf plan) ≡ length (listed steps)
+  pub last : take long current ≡ bytesLeft set plan (listed steps)
+  pub short : long ≤ 2054
+
+-- enough scratch, and a step that does not fit in its turn
+pub record Fails (set plan steps : List ℕ) (room : ℕ) : Type 0 where
+  pub enough : reachedNeed set plan steps ≤ room
+  pub fewer : fitted (tablesOf set) (listed steps) (planOf plan) < length (listed steps)
+
+abbrev pub Follows : List ℕ → List ℕ → List ℕ → ℕ → List ℕ → Followed → Type 0
+Follows set plan steps room current Short = room < reachedNeed set plan steps
+Follows set plan steps room current Unfit = Fails set plan steps room
+Follows set plan steps room current (Last long) = Arrives set plan steps room current long

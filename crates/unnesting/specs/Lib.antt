@@ -7,6 +7,8 @@ pub mod Counts
 pub mod Unnest
 pub mod Attempts
 pub mod StayNote
-pub mod Calls
 pub mod Demand3
+pub mod CheckSteps
+pub mod Calls
+pub mod AcceptedSteps
 pub mod Examples

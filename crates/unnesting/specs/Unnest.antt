@@ -34,9 +34,13 @@ passedThrough T (s ∷ ss) p = p ∷ passedThrough T ss (orElse p (attempt T s p
 abbrev pub largest : List ℕ → ℕ
 largest xs = foldr max 0 xs
 
--- the largest need of any plan passed through
+-- the largest need of any plan that a list of steps passes through
+abbrev pub stepsNeed : Tables → List Step → Plan → ℕ
+stepsNeed T ss p = largest (map (need T) (passedThrough T ss p))
+
+-- .. that the run passes through
 unfoldable pub unnestNeed : List ℕ → List ℕ → ℕ
-unnestNeed set plan = largest (map (need (tablesOf set)) (passedThrough (tablesOf set) (unnestSteps set plan) (planOf plan)))
+unnestNeed set plan = stepsNeed (tablesOf set) (unnestSteps set plan) (planOf plan)
 
 -- ---- what is written
 

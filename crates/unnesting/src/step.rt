@@ -94,6 +94,30 @@ fn step_at(
     }
 }
 
+// The plan after a step that is given, where its rule fits at its place. At a place only the rule that its node names can fit.
+pub(crate) fn try_step(
+    set: &[u8],
+    plan: &[u8],
+    tables: usize,
+    rule: u8,
+    place: usize,
+    out: &mut [u8],
+    scratch: &mut [u64],
+) -> Tried
+    requires { ⌜ (inputRefusal (now set) (now plan) ≡ 0) × (passes (tablesOf (now set)) (planOf (now plan)) ≡ true) × (readSet (now set) ≡ Holds tables) ⌝ }
+    requires { ⌜ (need (tablesOf (now set)) (planOf (now plan)) ≤ length (now scratch)) × (length (now out) ≡ 2086) ⌝ }
+    ensures { λ r. ⌜ Tells (now (set .entry)) (now (out .exit)) (attempt (tablesOf (now (set .entry))) (record { number = rule; place = place }) (planOf (now (plan .entry)))) r ⌝ }
+{
+    if nodes_of(plan) <= place {
+        return Tried::No;
+    }
+    let node = node_at(plan, place);
+    if rule_of(node) != rule {
+        return Tried::No;
+    }
+    step_at(set, plan, tables, place, node, out, scratch)
+}
+
 // The step at the smallest place where a rule fits. At a place only the rule that its node names can fit.
 pub(crate) fn smallest_step(
     set: &[u8],

@@ -68,7 +68,7 @@ smallest-step-requires c κs =
     let s = c .before .before .before .before .before .before .before .before .before .before .before .before .before .before .before .before in
     let a = s .args in
     let l = c .before .before .before .before .before .loop in
-    let h = held (a .set .now) (a .plan .now) (s .pre .0 .0) _ _ _ _ _ _ _ (l .inv .4) (whole (c .before .before .before .before .before)) in
+    let h = held (a .set .now) _ _ _ _ _ (l .inv .4 .stored) (whole (c .before .before .before .before .before)) in
     ((h .allowed, h .passed, s .pre .1 .3), (omega (arith, h .needs, c .before .before .before .before .loop-test .taken), omega (arith, l .inv .1, s .pre .1 .1)))
 
 -- src/run.rt:57:17
