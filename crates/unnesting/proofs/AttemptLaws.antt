@@ -10,7 +10,7 @@ use native.Mathlib.Decide.{decLt, ℕ-discrete}
 use Rattle.algebra.specs.Plans.{Tables, isPlain, cross, semi, quant, fold, each, pair, Plan, leaf, one, two}
 use Rattle.algebra.specs.Places.{size}
 use Rattle.algebra.specs.Rules.{ruleOf, numberAt, fresh}
-use Rattle.algebra.specs.Steps.{attempt}
+use Rattle.algebra.specs.Steps.{Step, attempt}
 use Rattle.algebra.specs.Demand3.{Still}
 use Rattle.algebra.proofs.Steps.{one-rule}
 use Rattle.reading.specs.TableSet.{tablesOf}
@@ -76,6 +76,14 @@ module _ (T : Tables) (p : Plan) where
           let n : u ≡ numberAt p i = one-rule T (record { number = u; place = i }) p q f in
           ap (λ (k : ℕ). attempt T (record { number = k; place = i }) p) n ∙ e
 
+  -- a step by another rule than its place names does not fit
+  pub other-rule : (s : Step) → s .number ≢ numberAt p (s .place) → attempt T s p ≡ none
+  other-rule s d = go (attempt T s p) refl
+    where
+      go : (o : Option Plan) → attempt T s p ≡ o → o ≡ none
+      go none f = refl
+      go (some q) f = absurd (d (one-rule T s p q f))
+
   pub still-past : (i : ℕ) → size p ≤ i → Still T p i
   still-past i h u l g = attempt-past T p (record { number = u; place = i }) h
 
@@ -116,20 +124,23 @@ module _ (set plan : List ℕ) (input : inputRefusal set plan ≡ 0) where
   pub nodes-few : nodesOf plan ≤ 64
   nodes-few = plan-passed set plan (input-parts set plan input .1) .known .most
 
+  -- the rule that a node tells is the one that its place names
+  pub rule-named : (i rule : ℕ) → i < nodesOf plan → rule ≡ operatorRule (operatorAt plan i) → rule ≡ numberAt (planOf plan) i
+  rule-named i rule h e = e ∙ (sym (rule-at plan i h) ∙ sym (number-at set plan input i h))
+
   -- the step that was found at place i, by the number that its node tells
   pub smallest-found : (buffer : List ℕ) (i rule long cells : ℕ) → i < nodesOf plan → rule ≡ operatorRule (operatorAt plan i)
       → ((j : ℕ) → j < i → Still (tablesOf set) (planOf plan) j)
       → Left set buffer (attempt (tablesOf set) (record { number = numberAt (planOf plan) i; place = i }) (planOf plan)) long cells
       → Smallest set buffer (planOf plan) rule i long cells
   smallest-found buffer i rule long cells h e first l =
-      let n : numberAt (planOf plan) i ≡ ruleOf (planAt plan i) = number-at set plan input i h in
       let r : rule ≡ ruleOf (planAt plan i) = e ∙ sym (rule-at plan i h) in
       let ruled = shape-ruled (tablesOf set) (fresh (tablesOf set) (planOf plan)) (planAt plan i) (λ z. Option·none-ne-some (l .after) (sym (step-none set plan input i h (possible-none set plan input i h z)) ∙ l .is)) in
       record {
         low = omega (arith, ruled .0);
         high = omega (arith, ruled .1);
         first = first;
-        left = subst (λ (k : ℕ). Left set buffer (attempt (tablesOf set) (record { number = k; place = i }) (planOf plan)) long cells) (n ∙ sym r) l;
+        left = subst (λ (k : ℕ). Left set buffer (attempt (tablesOf set) (record { number = k; place = i }) (planOf plan)) long cells) (sym (rule-named i rule h e)) l;
       }
 
 -- ---- an answer about the smallest place, by its case

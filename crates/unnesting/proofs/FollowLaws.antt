@@ -17,9 +17,11 @@ use Rattle.reading.specs.Check.{inputRefusal}
 use Rattle.unnesting.specs.Unnest.{passedThrough, stepsNeed}
 use Rattle.unnesting.specs.Demand3.{bytesLeft, stepsIn}
 use Rattle.unnesting.specs.CheckSteps.{listed, fitting, reachedNeed}
-use Rattle.unnesting.specs.Attempts.{Stored, Left, Arrives, Fails}
+use Rattle.unnesting.specs.Attempts.{Stored, Left, Arrives, Fails, Follows}
+use Rattle.unnesting.specs.declared.follow.Followed.{Followed}
+use Rattle.unnesting.specs.declared.follow.Followed.the-variants.{Short, Unfit, Last}
 use Rattle.unnesting.proofs.UnnestLaws.{passed-first}
-use Rattle.unnesting.proofs.RunLaws.{stored-given, stored-moved}
+use Rattle.unnesting.proofs.RunLaws.{stored-given, stored-moved, held}
 
 -- ---- the steps of a list
 
@@ -124,7 +126,8 @@ module _ (set plan steps : List ℕ) (room : ℕ) where
           let a : after T (listed steps) (planOf plan) ≡ r .q = r .left ∙ ap (λ (ss : List Step). after T ss (r .q)) z in
           record { enough = omega (arith, n, r .stored .needed); every = omega (arith, f); last = r .stored .bytes ∙ ap planBytes (sym a); short = r .stored .short }
 
-      module _ (more : 2 ≤ length steps - at) where
+      -- a step is left, and is tried on the plan that is held
+      module _ (slice : List ℕ) (is : slice ≡ take long current) (more : 2 ≤ length steps - at) where
         abbrev step : Step
         step = record { number = getD steps at 0; place = getD steps (at + 1) 0 }
 
@@ -140,23 +143,39 @@ module _ (set plan steps : List ℕ) (room : ℕ) where
         fit-here : fitted T (listed steps) (planOf plan) + length (step ∷ rest) ≡ length (listed steps) + fitted T (step ∷ rest) (r .q)
         fit-here = ap (λ (ss : List Step). fitted T (listed steps) (planOf plan) + length ss) (sym here) ∙ (r .fit ∙ ap (λ (ss : List Step). length (listed steps) + fitted T ss (r .q)) here)
 
-        -- the next step does not fit
-        pub following-unfit : attempt T step (r .q) ≡ none → Fails set plan steps room
+        tried-here : attempt T step (r .q) ≡ attempt T step (planOf slice)
+        tried-here = ap (attempt T step) (sym (held set current slice long needed (r .q) (r .stored) is .tree))
+
+        -- it does not fit
+        pub following-unfit : attempt T step (planOf slice) ≡ none → Fails set plan steps room
         following-unfit e =
             record {
-              enough = omega (arith, need-here, need-unfit T step rest (r .q) e, r .stored .needed);
-              fewer = omega (arith, fit-here, fitted-unfit T step rest (r .q) e);
+              enough = omega (arith, need-here, need-unfit T step rest (r .q) (tried-here ∙ e), r .stored .needed);
+              fewer = omega (arith, fit-here, fitted-unfit T step rest (r .q) (tried-here ∙ e));
             }
 
         -- it fits, and the plan after it is held
-        pub following-step : (next current′ : List ℕ) (long′ needed′ : ℕ) (l : Left set next (attempt T step (r .q)) long′ needed′)
+        pub following-step : (next current′ : List ℕ) (long′ needed′ : ℕ) → Left set next (attempt T step (planOf slice)) long′ needed′
             → take long′ current′ ≡ take long′ next → Following set plan steps room current′ long′ needed′ (at + 2)
         following-step next current′ long′ needed′ l e =
+            let fits : attempt T step (r .q) ≡ some (l .after) = tried-here ∙ l .is in
             record {
               q = l .after;
               stored = stored-moved set next current′ long′ needed′ (l .after) (l .stored) e;
               within = omega arith;
-              left = r .left ∙ (ap (λ (ss : List Step). after T ss (r .q)) here ∙ after-fit T step rest (r .q) (l .after) (l .is));
-              fit = omega (arith, fit-here, fitted-fit T step rest (r .q) (l .after) (l .is));
-              most = omega (arith, need-here, need-fit T step rest (r .q) (l .after) (l .is), r .stored .needed);
+              left = r .left ∙ (ap (λ (ss : List Step). after T ss (r .q)) here ∙ after-fit T step rest (r .q) (l .after) fits);
+              fit = omega (arith, fit-here, fitted-fit T step rest (r .q) (l .after) fits);
+              most = omega (arith, need-here, need-fit T step rest (r .q) (l .after) fits, r .stored .needed);
             }
+
+-- ---- how following ended, by its case
+
+module _ (set plan steps : List ℕ) (room : ℕ) (current : List ℕ) (r : Followed) (f : Follows set plan steps room current r) where
+  pub follows-short : r ≡ Short → room < reachedNeed set plan steps
+  follows-short e = subst (Follows set plan steps room current) e f
+
+  pub follows-unfit : r ≡ Unfit → Fails set plan steps room
+  follows-unfit e = subst (Follows set plan steps room current) e f
+
+  pub follows-last : (long : ℕ) → r ≡ Last long → Arrives set plan steps room current long
+  follows-last long e = subst (Follows set plan steps room current) e f

@@ -59,9 +59,10 @@ fn check_accepted(
     requires { ⌜ (inputRefusal (now set) (now plan) ≡ 0) × (cells ≡ need (tablesOf (now set)) (planOf (now plan))) × (readSet (now set) ≡ Holds tables) ⌝ }
     ensures { λ r. ⌜ StepsChecked (now (set .entry)) (now (plan .entry)) (now (steps .entry)) (now (theirs .entry)) (now (scratch .entry)) (now (scratch .exit)) r ⌝ }
 {
-    if list_number(steps) != 0 {
+    let number = list_number(steps);
+    if number != 0 {
         clear(scratch);
-        return 20;
+        return number;
     }
     let mut current = [0u8; 2086];
     let mut next = [0u8; 2086];
@@ -80,20 +81,18 @@ fn check_accepted(
         Followed::Short => 16,
         Followed::Unfit => 21,
         Followed::Last { length } => {
-            if same_bytes(&current[0..length], theirs) { 0 } else { 21 }
+            if same_bytes(&current[0..length], theirs) {
+                0
+            } else {
+                21
+            }
         }
     }
 }
 
 // Checks a list of steps made elsewhere, two bytes each, and the plan theirs: 0 exactly where every step fits in its turn, from the plan given and
 // over its tables, and the plan left is theirs byte for byte.
-pub fn check_steps(
-    set: &[u8],
-    plan: &[u8],
-    steps: &[u8],
-    theirs: &[u8],
-    scratch: &mut [u64],
-) -> u8
+pub fn check_steps(set: &[u8], plan: &[u8], steps: &[u8], theirs: &[u8], scratch: &mut [u64]) -> u8
     ensures { λ r. ⌜ StepsChecked (now (set .entry)) (now (plan .entry)) (now (steps .entry)) (now (theirs .entry)) (now (scratch .entry)) (now (scratch .exit)) r ⌝ }
 {
     match check_input(set, plan) {
