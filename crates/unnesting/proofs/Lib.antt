@@ -20,4 +20,5 @@ pub mod CandidateLaws
 pub mod AttemptLaws
 pub mod RunLaws
 pub mod FollowLaws
+pub mod AcceptedSteps
 pub mod NoteLaws
