@@ -9,7 +9,8 @@ use Rattle.reading.specs.Check.{inputRefusal}
 use Rattle.reporting.specs.Report.{rowCount, columnCount, reportCodes, reportNumber, countAfter, outputAfter, scratchAfter}
 use Rattle.unnesting.specs.Unnest.{unnestSteps, writtenSteps, writtenPlan, unnestNumber, bytesAfter}
 use Rattle.unnesting.specs.StayNote.{stayAnswer}
-use Rattle.unnesting.specs.Calls.{Determined, ReportPromise, reportSizes, UnnestPromise, unnestSizes, StayNotePromise, NothingLeft}
+use Rattle.unnesting.specs.CheckSteps.{checkStepsNumber}
+use Rattle.unnesting.specs.Calls.{Determined, ReportPromise, reportSizes, UnnestPromise, unnestSizes, StayNotePromise, CheckStepsPromise, NothingLeft}
 
 -- ---- what a determined promise means for two calls
 
@@ -23,7 +24,7 @@ module _ {Given Buffers Sizes Answer : Type 0} {sizes : Buffers → Sizes} {Prom
   pub same-buffers : first ≡ second → left ≡ left′
   same-buffers e = d .only given first left r p .0 ∙ (ap (d .after given) e ∙ sym (d .only given second left′ r′ q .0))
 
--- ---- the three calls
+-- ---- the four calls
 
 report-determined : Determined reportSizes ReportPromise
 report-determined = record {
@@ -56,5 +57,19 @@ stay-note-determined = record {
   only = λ given before left r p. (p .cleared, p .answer);
 }
 
+check-steps-determined : Determined length CheckStepsPromise
+check-steps-determined = record {
+  answer = λ (set, plan, steps, theirs) room. checkStepsNumber set plan steps theirs room;
+  after = λ (set, plan, steps, theirs) scratch. scratchAfter (inputRefusal set plan) scratch;
+  kept = λ given before. record { number = refl; cleared = refl };
+  only = λ given before left r p. (p .cleared, p .number);
+}
+
 pub nothing-left : NothingLeft
-nothing-left = record { report = report-determined; unnest = unnest-determined; stayNote = stay-note-determined; smallest = λ set plan place s e. note-smallest (tablesOf set) (planOf plan) place s e }
+nothing-left = record {
+  report = report-determined;
+  unnest = unnest-determined;
+  stayNote = stay-note-determined;
+  checkSteps = check-steps-determined;
+  smallest = λ set plan place s e. note-smallest (tablesOf set) (planOf plan) place s e;
+}

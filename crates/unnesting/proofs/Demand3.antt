@@ -18,18 +18,15 @@ use Rattle.algebra.proofs.Steps.{attempt-passes, demand-3 as tree-demand-3, run
 use Rattle.reading.specs.TableSet.{readSet, tablesOf}
 use Rattle.reading.specs.Tree.{planOf}
 use Rattle.reading.specs.Encoding.{planBytes}
-use Rattle.reading.specs.Check.{setNumber, orNext, planRefusal, inputRefusal, inputRefusalAs}
+use Rattle.reading.specs.Check.{setNumber, planRefusal, inputRefusal, inputRefusalAs}
 use Rattle.reading.proofs.PlanBytes.{plan-passed, accepted-plans}
 use Rattle.reporting.specs.Report.{reportRows, reportColumns, rowCount, columnCount, codeOf, reportCodes, countAfter, outputAfter, Reported}
+use Rattle.reporting.proofs.Reports.{or-next}
 use Rattle.unnesting.specs.Unnest.{bytesAfter, unnestSteps, unnestPlan, stepBytes, writtenSteps, writtenPlan, Unnested}
 use Rattle.unnesting.specs.Demand3.{bytesLeft, stepsIn, OwnSteps, Claim}
 use Rattle.unnesting.proofs.Widths.{report-cells}
 
 -- ---- the set and the plan are accepted apart
-
-or-next : (a b : ℕ) → orNext a b ≡ 0 → (a ≡ 0) × (b ≡ 0)
-or-next zero b e = (refl, e)
-or-next (suc a) b e = absurd (omega arith)
 
 pub input-parts : (set plan : List ℕ) → inputRefusal set plan ≡ 0 → (setNumber (readSet set) ≡ 0) × (planRefusal set plan ≡ 0)
 unfolding inputRefusalAs
@@ -73,7 +70,7 @@ unfolding stepsIn
 steps-in [] rest = refl
 steps-in (s ∷ ss) rest = ap (λ (l : List Step). s ∷ l) (steps-in ss rest)
 
--- ---- where no rule of 1 to 8 fits, no step fits
+-- ---- where no rule of 1 to 8 fits at a place, no step fits there
 
 first-none : {A : Type 0} (n k : ℕ) (f : ℕ → Option A) → ((j : ℕ) → k ≤ j → j < k + n → f j ≡ none) → first n k f ≡ none
 first-none zero k f h = refl
@@ -83,13 +80,13 @@ map-none : {A B : Type 0} (k : A → B) (o : Option A) → Option·map k o ≡ n
 map-none k none h = refl
 map-none k (some a) h = absurd (Option·some-ne-none _ h)
 
-none-fits : (T : Tables) (p : Plan) → ((i : ℕ) → Still T p i) → (s : Step) → attempt T s p ≡ none
-none-fits T p still s = go (attempt T s p) refl
+pub none-fits : (T : Tables) (p : Plan) (s : Step) → Still T p (s .place) → attempt T s p ≡ none
+none-fits T p s still = go (attempt T s p) refl
   where
     named : tried T p (s .place) (numberAt p (s .place)) ≡ none
     named =
         sym (at-place-number T p (s .place))
-        ∙ first-none 8 1 (tried T p (s .place)) (λ u l m. ap (Option·map (λ q. (record { number = u; place = s .place }, q))) (still (s .place) u l (omega arith)))
+        ∙ first-none 8 1 (tried T p (s .place)) (λ u l m. ap (Option·map (λ q. (record { number = u; place = s .place }, q))) (still u l (omega arith)))
 
     go : (o : Option Plan) → attempt T s p ≡ o → o ≡ none
     go none e = refl
@@ -107,23 +104,37 @@ module _ (set plan : List ℕ) where
   own-steps : OwnSteps set plan (unnestSteps set plan) (length (unnestSteps set plan)) (writtenPlan set plan)
   own-steps =
       let r = run-3 (tablesOf set) (planOf plan) in
-      record { counted = refl; runs = r; everyFits = run-fits (tablesOf set) r; leaves = refl; noneLeft = none-fits (tablesOf set) (unnestPlan set plan) (run-still (tablesOf set) r) }
+      record { counted = refl; runs = r; everyFits = run-fits (tablesOf set) r; leaves = refl; noneLeft = λ s. none-fits (tablesOf set) (unnestPlan set plan) s (run-still (tablesOf set) r (s .place)) }
 
-  -- a call that is not refused wrote its own steps and the plan that they leave
+  -- what a call that is not refused wrote
+  pub record Wrote (planOut′ stepsOut stepsOut′ : List ℕ) (steps bytes : ℕ) : Type 0 where
+    pub counted : steps ≡ length (unnestSteps set plan)
+    pub planFront : take bytes planOut′ ≡ writtenPlan set plan
+    pub stepsFront : stepsOut′ ≡ writtenSteps set plan ++ drop (length (writtenSteps set plan)) stepsOut
+
+  pub wrote : (planOut planOut′ stepsOut stepsOut′ scratch scratch′ : List ℕ) (steps bytes : ℕ)
+      → Unnested set plan planOut planOut′ stepsOut stepsOut′ scratch scratch′ 0 steps bytes
+      → Wrote planOut′ stepsOut stepsOut′ steps bytes
+  wrote planOut planOut′ stepsOut stepsOut′ scratch scratch′ steps bytes u =
+      let n = sym (u .number) in
+      let w = writtenPlan set plan in
+      let b : bytes ≡ length w = u .byteCount ∙ ap (λ (k : ℕ). countAfter k (length w)) n in
+      let p : planOut′ ≡ w ++ drop (length w) planOut = u .planWritten ∙ ap (λ (k : ℕ). bytesAfter k w planOut) n in
+      record {
+        counted = u .stepCount ∙ ap (λ (k : ℕ). countAfter k (length (unnestSteps set plan))) n;
+        planFront = ap (take bytes) p ∙ take-at w (drop (length w) planOut) bytes (sym b);
+        stepsFront = u .stepsWritten ∙ ap (λ (k : ℕ). bytesAfter k (writtenSteps set plan) stepsOut) n;
+      }
+
+  -- these are its own steps and the plan that they leave
   own-written : (planOut planOut′ stepsOut stepsOut′ scratch scratch′ : List ℕ) (steps bytes : ℕ)
       → Unnested set plan planOut planOut′ stepsOut stepsOut′ scratch scratch′ 0 steps bytes
       → OwnSteps set plan (stepsIn steps stepsOut′) steps (take bytes planOut′)
   own-written planOut planOut′ stepsOut stepsOut′ scratch scratch′ steps bytes u =
-      let n = sym (u .number) in
-      let w = writtenPlan set plan in
-      let c : steps ≡ length (unnestSteps set plan) = u .stepCount ∙ ap (λ (k : ℕ). countAfter k (length (unnestSteps set plan))) n in
-      let b : bytes ≡ length w = u .byteCount ∙ ap (λ (k : ℕ). countAfter k (length w)) n in
-      let p : planOut′ ≡ w ++ drop (length w) planOut = u .planWritten ∙ ap (λ (k : ℕ). bytesAfter k w planOut) n in
-      let s : stepsOut′ ≡ writtenSteps set plan ++ drop (length (writtenSteps set plan)) stepsOut = u .stepsWritten ∙ ap (λ (k : ℕ). bytesAfter k (writtenSteps set plan) stepsOut) n in
-      let t : take bytes planOut′ ≡ w = ap (take bytes) p ∙ take-at w (drop (length w) planOut) bytes (sym b) in
+      let w = wrote planOut planOut′ stepsOut stepsOut′ scratch scratch′ steps bytes u in
       let o : stepsIn steps stepsOut′ ≡ unnestSteps set plan =
-      (λ i. stepsIn (c i) (s i)) ∙ steps-in (unnestSteps set plan) (drop (length (writtenSteps set plan)) stepsOut) in
-      rw (o, c, t) own-steps
+      (λ i. stepsIn (w .counted i) (w .stepsFront i)) ∙ steps-in (unnestSteps set plan) (drop (length (writtenSteps set plan)) stepsOut) in
+      rw (o, w .counted, w .planFront) own-steps
 
 -- an answer of the reporting call that is not refused is the report's counts and cells
 record Answered (set plan : List ℕ) (cells : List ℤ) (rows columns : ℕ) : Type 0 where

@@ -21,4 +21,5 @@ pub mod AttemptLaws
 pub mod RunLaws
 pub mod FollowLaws
 pub mod CheckStepsLaws
+pub mod AcceptedSteps
 pub mod NoteLaws

@@ -25,7 +25,7 @@ use Rattle.unnesting.proofs.Demand3.{input-parts, demand-3}
 
 module _ (T : Tables) where
   -- what fits at a place, by the step's number and what it leaves, is one
-  same-number : (p q q′ : Plan) (u v i : ℕ) → attempt T (record { number = u; place = i }) p ≡ some q → attempt T (record { number = v; place = i }) p ≡ some q′ → u ≡ v
+  pub same-number : (p q q′ : Plan) (u v i : ℕ) → attempt T (record { number = u; place = i }) p ≡ some q → attempt T (record { number = v; place = i }) p ≡ some q′ → u ≡ v
   same-number p q q′ u v i e f = one-rule T (record { number = u; place = i }) p q e ∙ sym (one-rule T (record { number = v; place = i }) p q′ f)
 
   -- no step fits where nothing does

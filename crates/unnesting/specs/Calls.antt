@@ -11,6 +11,7 @@ use Rattle.reporting.specs.declared.answer.Report.{Report}
 use Rattle.reporting.specs.Report.{Reported}
 use Rattle.unnesting.specs.Unnest.{Unnested}
 use Rattle.unnesting.specs.StayNote.{noteDue, StayNoted}
+use Rattle.unnesting.specs.CheckSteps.{StepsChecked}
 use Rattle.unnesting.specs.declared.stay_note.StayNote.{StayNote}
 
 -- A promise is a claim about what a call is given, what the buffers lent hold before and after it, and its answer. It is determined where
@@ -25,7 +26,7 @@ pub record Determined {Given Buffers Sizes Answer : Type 0} (sizes : Buffers →
   pub kept : (given : Given) (before : Buffers) → Promise given before (after given before) (answer given (sizes before))
   pub only : (given : Given) (before left : Buffers) (r : Answer) → Promise given before left r → (left ≡ after given before) × (r ≡ answer given (sizes before))
 
--- ---- the three calls: what they promise, and the sizes of what they are lent
+-- ---- the four calls: what they promise, and the sizes of what they are lent
 
 -- given a set and a plan; lent an output and scratch
 abbrev pub ReportPromise : List ℕ × List ℕ → List ℤ × List ℕ → List ℤ × List ℕ → Report → Type 0
@@ -46,11 +47,16 @@ unnestSizes (planOut, stepsOut, scratch) = (length planOut, length stepsOut, len
 abbrev pub StayNotePromise : List ℕ × List ℕ × ℕ → List ℕ → List ℕ → StayNote → Type 0
 StayNotePromise (set, plan, place) scratch scratch′ r = StayNoted set plan place scratch scratch′ r
 
+-- given a set, a plan, a list of steps and the plan theirs; lent scratch; the answer is a refusal
+abbrev pub CheckStepsPromise : List ℕ × List ℕ × List ℕ × List ℕ → List ℕ → List ℕ → ℕ → Type 0
+CheckStepsPromise (set, plan, steps, theirs) scratch scratch′ refusal = StepsChecked set plan steps theirs scratch scratch′ refusal
+
 -- ---- the claim
 pub record NothingLeft : Type 0 where
   pub report : Determined reportSizes ReportPromise
   pub unnest : Determined unnestSizes UnnestPromise
   pub stayNote : Determined length StayNotePromise
+  pub checkSteps : Determined length CheckStepsPromise
   -- and a note's position is the smallest at which its sequences differ or just one has ended
   pub smallest : (set plan : List ℕ) (place : ℕ) (s : Sequences) → noteDue set plan place ≡ some s
       → SmallestDifference (s .first) (s .second) (firstDifference (s .first) (s .second))
