@@ -8,6 +8,7 @@ use Rattle.reporting.specs.declared.answer.Report.{Report}
 use Rattle.reporting.specs.Report.{Reported}
 use Rattle.unnesting.specs.Unnest.{Unnested}
 use Rattle.unnesting.specs.StayNote.{StayNoted}
+use Rattle.unnesting.specs.CheckSteps.{StepsChecked}
 use Rattle.unnesting.specs.declared.stay_note.StayNote.{StayNote}
 use Rattle.unnesting.specs.declared.stay_note.StayNote.the-variants.{Refused, None, Position}
 use Rattle.reading.specs.declared.version.Version.{Version}
@@ -52,6 +53,10 @@ pub record StayNoteCalled (set plan : List ℕ) (place : ℕ) (scratch scratch�
   pub answer : StayNote
   pub noted : StayNoted set plan place scratch scratch′ answer
   pub encoded : word ≡ stayWord answer
+
+-- the word is the refusal
+abbrev pub CheckStepsCalled : List ℕ → List ℕ → List ℕ → List ℕ → List ℕ → List ℕ → ℕ → Type 0
+CheckStepsCalled set plan steps theirs scratch scratch′ word = StepsChecked set plan steps theirs scratch scratch′ word
 
 pub record ConvertCalled (from to : Version) (set plan setOut setOut′ planOut planOut′ : List ℕ) (word : ℕ) : Type 0 where
   pub answer : Converted

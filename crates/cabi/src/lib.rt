@@ -2,11 +2,12 @@
 ghost use mathlib.Core.Path.{_≡_};
 ghost use Prim.Native.Nat.{_≤_};
 ghost use Rattle.reading.specs.declared.version.Version.the-variants.{First, Second};
-ghost use Rattle.cabi.specs.Words.{convertWord, ReportCalled, UnnestCalled, StayNoteCalled, ConvertCalled};
+ghost use Rattle.cabi.specs.Words.{convertWord, ReportCalled, UnnestCalled, StayNoteCalled, CheckStepsCalled, ConvertCalled};
 use conversion::convert::Converted;
 use conversion::convert::convert_down;
 use conversion::convert::convert_up;
 use reporting::report::report;
+use unnesting::check_steps::check_steps;
 use unnesting::stay_note::StayNote;
 use unnesting::stay_note::stay_note;
 use unnesting::unnest::unnest;
@@ -51,6 +52,20 @@ pub extern "C" fn club_stay_note(set: &[u8], plan: &[u8], place: usize, scratch:
         StayNote::None => 0,
         StayNote::Position(position) => 256 + 65536 * (position as u64),
     }
+}
+
+// The call that checks steps made elsewhere. C gets the refusal.
+#[no_mangle]
+pub extern "C" fn club_check_steps(
+    set: &[u8],
+    plan: &[u8],
+    steps: &[u8],
+    theirs: &[u8],
+    scratch: &mut [u64],
+) -> u64
+    ensures { λ r. ⌜ CheckStepsCalled (now (set .entry)) (now (plan .entry)) (now (steps .entry)) (now (theirs .entry)) (now (scratch .entry)) (now (scratch .exit)) r ⌝ }
+{
+    check_steps(set, plan, steps, theirs, scratch) as u64
 }
 
 // The word of the converter's answer: refusal + 2^8 * bytes of the plan + 2^24 * bytes of the set.
