@@ -59,20 +59,20 @@ module _ (steps : List ℕ) (even : length steps % 2 ≡ 0) where
 
 -- ---- two lists of bytes
 
--- lists of one length are the same where one starts with the other
-pub same-starts : (xs ys : List ℕ) → length ys ≡ length xs → startsWith xs ys ≡ same xs ys
+-- a list that is no longer than another is the same where it starts with the other
+pub same-starts : (xs ys : List ℕ) → length ys ≤ length xs → startsWith xs ys ≡ same xs ys
 unfolding startsWith
 same-starts [] [] h = refl
 same-starts [] (y ∷ ys) h = absurd (omega arith)
-same-starts (x ∷ xs) [] h = absurd (omega arith)
+same-starts (x ∷ xs) [] h = refl
 same-starts (x ∷ xs) (y ∷ ys) h = ap₂ (λ (a b : Bool). a && b) (eqb-sym y x) (same-starts xs ys (omega arith))
 
--- lists of two lengths are not the same
-pub same-long : (xs ys : List ℕ) → (length ys ≡ length xs → ⊥) → false ≡ same xs ys
+-- a longer one is not the same
+pub same-long : (xs ys : List ℕ) → length xs < length ys → false ≡ same xs ys
 same-long xs ys h = go (same xs ys) refl
   where
     go : (b : Bool) → same xs ys ≡ b → false ≡ b
-    go true e = absurd (h (ap length (sym (same-true xs ys e))))
+    go true e = absurd (omega (arith, ap length (same-true xs ys e)))
     go false e = refl
 
 -- ---- the ends of the call

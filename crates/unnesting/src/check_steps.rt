@@ -36,11 +36,11 @@ fn list_number(steps: &[u8]) -> u8
     0
 }
 
-// Whether two lists of bytes are the same: they are equally long, and one starts with the other.
+// Whether the plan left is theirs, byte for byte: theirs is no longer, and it starts with all of the plan left.
 fn same_bytes(left: &[u8], theirs: &[u8]) -> bool
     ensures { λ r. ⌜ r ≡ same (now (left .entry)) (now (theirs .entry)) ⌝ }
 {
-    if theirs.len() != left.len() {
+    if left.len() < theirs.len() {
         return false;
     }
     starts_with(theirs, left)
