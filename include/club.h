@@ -1,9 +1,9 @@
-/* The C interface of the club report plans: report, unnest, stay note, and the converter of versions.
+/* The C interface of the club report plans: report, unnest, stay note, the check of steps made elsewhere, and the converter of versions.
  *
  * Link with libcabi.a, which `rt staticlib cabi` writes to target/staticlib/ once everything is proved (x86-64 Linux). The archive needs
  * nothing but the C library.
  *
- * The set of tables and the plan are any bytes. A buffer is a pointer and the number of its elements (not of its bytes, where an
+ * The set of tables, the plan, a list of steps and the plan theirs are any bytes. A buffer is a pointer and the number of its elements (not of its bytes, where an
  * element is wider than one). What the caller owes: a pointer is not null, not even with length 0; it is aligned for its element;
  * so many elements can be read, and those of out, out_set, out_plan, out_steps and scratch written; and a buffer that is written overlaps no
  * other. No call allocates, keeps a pointer, or fails in any other way than by a refusal number.
@@ -23,6 +23,8 @@
  *    6  plan's length                       14  a bound over 4,096 rows
  *    7  plan's mark, or not version 2       15  output short
  *    8  node count                          16  scratch below the need; tested before 15
+ *                                           20  a list of steps of odd length, or a rule outside 1 to 8; tested before 16
+ *                                           21  a step does not fit, or another plan is left; tested after 16
  *                                           25  a number that does not fit version 1; tested before 15
  *
  * A refused call leaves its outputs as they were. Unwritten output keeps its elements. Scratch is untouched after 1 to 14 and all zero
@@ -59,6 +61,14 @@ uint64_t club_unnest(const uint8_t *set, size_t set_len, const uint8_t *plan, si
  * of them has ended. Gives the refusal (1 to 14, or 16), or 2^8 + 2^16 * position, or 0 where no note is due. */
 uint64_t club_stay_note(const uint8_t *set, size_t set_len, const uint8_t *plan, size_t plan_len,
                         size_t place, uint64_t *scratch, size_t scratch_len);
+
+/* Whether steps made elsewhere are right: each fits in its turn, from the plan given and over its tables, and the plan left is theirs, byte for
+ * byte. The steps are two bytes each, as club_unnest writes them; theirs is only compared, and not read as a plan.
+ * Gives the refusal (1 to 14 of the set and the plan given, 20, 16 or 21), or 0 where they are right. Its 16 looks at the plan given and at each
+ * plan after a step before the first one that does not fit. */
+uint64_t club_check_steps(const uint8_t *set, size_t set_len, const uint8_t *plan, size_t plan_len,
+                          const uint8_t *steps, size_t steps_len, const uint8_t *theirs, size_t theirs_len,
+                          uint64_t *scratch, size_t scratch_len);
 
 /* A set and a plan of version 1 taken up to version 2, and of version 2 taken down to version 1: the set at the front of out_set, the plan at
  * the front of out_plan. Up, 1,024,064 and 2,054 bytes hold any; down, 512,064 and 1,542. 2 and 7 mean: not the version that the call takes.
