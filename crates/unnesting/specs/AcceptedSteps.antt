@@ -22,7 +22,7 @@ pub data Fit (T : Tables) : Plan → List Step → Plan → Type 0 where
   done : {p : Plan} → Fit T p [] p
   next : {p q last : Plan} {s : Step} {ss : List Step} → attempt T s p ≡ some q → Fit T q ss last → Fit T p (s ∷ ss) last
 
--- A list and theirs that are right: the list is the bytes of steps that each fit in its turn, and theirs, byte for byte, is the plan that they
+-- A list and theirs that are right: the list is the bytes of steps that each fit in their turn, and theirs, byte for byte, is the plan that they
 -- lead to. Scratch has so many cells, enough for each plan on the way.
 pub record Right (set plan steps theirs : List ℕ) (scratchRoom : ℕ) : Type 0 where
   pub input : inputRefusal set plan ≡ 0

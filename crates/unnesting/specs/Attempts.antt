@@ -77,14 +77,14 @@ Runs false set plan room current steps count long = room < unnestNeed set plan
 
 -- ---- a list of steps followed
 
--- Where scratch has so many cells, enough for every plan reached and each step fits in its turn: the plan left stands at the front of a buffer.
+-- Scratch of so many cells was enough for every plan reached, and each step fitted in its turn: the plan left stands at the front of a buffer.
 pub record Arrives (set plan steps : List ℕ) (room : ℕ) (current : List ℕ) (long : ℕ) : Type 0 where
   pub enough : reachedNeed set plan steps ≤ room
   pub every : fitted (tablesOf set) (listed steps) (planOf plan) ≡ length (listed steps)
   pub last : take long current ≡ bytesLeft set plan (listed steps)
   pub short : long ≤ 2054
 
--- enough scratch, and a step that does not fit in its turn
+-- It was enough, and a step did not fit in its turn.
 pub record Fails (set plan steps : List ℕ) (room : ℕ) : Type 0 where
   pub enough : reachedNeed set plan steps ≤ room
   pub fewer : fitted (tablesOf set) (listed steps) (planOf plan) < length (listed steps)
