@@ -439,7 +439,7 @@ pub fn hold_unnest(random: &mut Random, set: &[u8], plan: &[u8], counts: &mut Co
         }
         let Ok(expected) = expected else { continue };
         expected.steps.iter().for_each(|&(rule, _)| counts.rules[usize::from(rule)] += 1);
-        if steps != expected.steps.iter().flat_map(|&(rule, place)| [rule, place]).collect::<Vec<u8>>() {
+        if steps != calls::write_steps(&expected.steps) {
             return Err(format!("{rooms}: the steps are {steps:?} and not {:?}", expected.steps));
         }
         if plan_left != expected.plan {
