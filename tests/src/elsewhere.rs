@@ -7,7 +7,7 @@ use crate::generate::{accepted, Input};
 use crate::nodes::{write_plan, NODE};
 use crate::plan::Plan;
 use crate::random::Random;
-use crate::rules::{first_fit, fitting_steps, try_step};
+use crate::rules::{first_fit, fit, fitting_steps, try_step};
 use crate::tables::Table;
 
 /// A list of steps and the plan that it is said to leave, as bytes.
@@ -467,7 +467,6 @@ pub struct Met {
 impl Met {
     /// Counts a call with this list, plan and scratch.
     pub fn count(&mut self, unnesting: &Unnesting, sent: &Sent, checked: &Checked, scratch: usize) {
-        let otherwise = checked.followed.judged(checked.need() as u64, &sent.theirs, scratch);
         match checked.answer(&sent.theirs, scratch) {
             Ok(()) => self.count_accepted(unnesting, sent, checked),
             Err(21) => self.refused_21[why_21(unnesting, sent, checked)] += 1,
@@ -481,8 +480,12 @@ impl Met {
                 }
             }
             Err(_) => {
-                let next = [None, Some(16), Some(21)].iter().position(|number| *number == otherwise.err());
-                self.refused_20[next.expect("16 or 21")] += 1;
+                let next = match checked.followed.judged(checked.need() as u64, &sent.theirs, scratch) {
+                    Ok(()) => 0,
+                    Err(16) => 1,
+                    Err(_) => 2,
+                };
+                self.refused_20[next] += 1;
                 self.after_misfit += usize::from(read_steps(before_misfit(sent, checked)).is_ok());
             }
         }
@@ -532,7 +535,7 @@ fn why_21(unnesting: &Unnesting, sent: &Sent, checked: &Checked) -> usize {
     let plan = checked.followed.last();
     if !all_fit {
         let (_, place) = whole_steps(&sent.steps)[reached.len() - 1];
-        return match fitting_steps(plan, unnesting.tables).iter().find(|(_, fitting)| *fitting == place) {
+        return match fit(plan, usize::from(place), unnesting.tables) {
             _ if usize::from(place) >= plan.size() => 2,
             Some(_) => 0,
             None => 1,

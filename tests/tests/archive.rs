@@ -13,7 +13,8 @@ mod held {
     use second::elsewhere::{with_several_places, Scratch, Sent, Unnesting, CHANGES, ENDS, SCRATCHES, STARTS};
     use second::generate::Input;
     use second::held::{
-        hold, hold_conversions, hold_convert, hold_report, hold_seeds, hold_unnest, Conversions, Counts, SentHolder,
+        hold, hold_check_steps, hold_conversions, hold_convert, hold_report, hold_seeds, hold_unnest, Conversions,
+        Counts, SentHolder,
     };
     use second::in_place::{over, plan_of, tables, Operator, Tree};
     use second::nodes::{write_plan, write_plan_in};
@@ -399,7 +400,8 @@ mod held {
             ] {
                 let bytes = write_plan(&plan);
                 let held = hold_report(&mut random, &set, &bytes, &mut counts)
-                    .and_then(|()| hold_unnest(&mut random, &set, &bytes, &mut counts));
+                    .and_then(|()| hold_unnest(&mut random, &set, &bytes, &mut counts))
+                    .and_then(|()| hold_check_steps(&mut random, &set, &bytes, &mut counts));
                 differences.extend(held.err().map(|difference| format!("{plan:?}: {difference}")));
             }
         }
