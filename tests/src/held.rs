@@ -532,7 +532,7 @@ pub fn hold_check_steps(random: &mut Random, set: &[u8], plan: &[u8], counts: &m
         let other = unnesting.started(random, Start::OtherOrder);
         holder.hold_made(random, &other, &[End::Reached], &[Scratch::Largest])?;
     }
-    for _ in 0..4 {
+    for _ in 0..3 {
         let steps = unnesting.list(random);
         let end = if random.chance(60) { End::Reached } else { random.pick(&ENDS) };
         let scratch = if random.chance(40) { Scratch::Largest } else { random.pick(&SCRATCHES) };

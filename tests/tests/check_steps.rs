@@ -403,7 +403,7 @@ fn drawn(random: &mut Random, seed: u64) -> Input {
 fn our_own_list_passes_with_the_scratch_of_the_unnesting_call() {
     let (mut lists, mut longest) = (0, 0);
     let edges = edges().into_iter().map(|(_, input)| input);
-    let random = (0..2_500).map(|seed| drawn(&mut Random::new(9_000_000 + seed), seed));
+    let random = (0..2_000).map(|seed| drawn(&mut Random::new(9_000_000 + seed), seed));
     for (number, input) in edges.chain(random).enumerate() {
         let (set, plan) = (input.set_bytes(), input.plan_bytes());
         let need = unnest_need(&set, &plan).expect("an accepted plan") as usize;
@@ -436,7 +436,7 @@ fn leads_there(input: &Input, steps: &[u8], theirs: &[u8]) -> bool {
 fn a_list_is_accepted_where_each_step_changes_the_plan_and_then_keeps_the_report() {
     let mut counts = [0usize; 22];
     let mut orders = [0usize; 2];
-    for seed in 0..2_500 {
+    for seed in 0..1_500 {
         let mut random = Random::new(10_000_000 + seed);
         let input = drawn(&mut random, seed);
         let (set, plan) = (input.set_bytes(), input.plan_bytes());
@@ -475,13 +475,13 @@ fn a_list_is_accepted_where_each_step_changes_the_plan_and_then_keeps_the_report
     print!("lists made elsewhere: accepted {accepted}, refused 16 {short}, 20 {bad}, 21 {different}; ");
     println!("accepted in another order to our last plan {}, to another {}", orders[0], orders[1]);
     assert!([accepted, short, bad, different].iter().all(|&count| count > 500), "{counts:?}");
-    assert!(orders.iter().all(|&count| count > 20), "{orders:?}");
+    assert!(orders.iter().all(|&count| count > 10), "{orders:?}");
 }
 
 #[test]
 fn cut_lists_lead_to_the_plans_passed_through() {
     let mut accepted = 0;
-    for seed in 0..1_000 {
+    for seed in 0..500 {
         let input = drawn(&mut Random::new(11_000_000 + seed), seed);
         let Unnesting { steps, passed, .. } = Unnesting::of(&input.plan, &input.tables);
         for (number, plan) in passed.iter().enumerate() {
@@ -496,5 +496,5 @@ fn cut_lists_lead_to_the_plans_passed_through() {
         }
     }
     println!("cut lists that lead to a plan passed through {accepted}");
-    assert!(accepted > 2_000, "{accepted}");
+    assert!(accepted > 1_000, "{accepted}");
 }
