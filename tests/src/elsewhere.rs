@@ -193,16 +193,18 @@ impl Checked {
 }
 
 impl<'a> Unnesting<'a> {
+    /// The unnesting of an accepted plan.
     pub fn of(tree: &Plan, tables: &'a [Table]) -> Unnesting<'a> {
         let (steps, passed) = unnest_tree(tree, tables);
         Unnesting { tables, steps, passed }
     }
 
-    /// The given plan, and the last.
+    /// The given plan.
     fn given(&self) -> &Plan {
         &self.passed[0]
     }
 
+    /// The last plan.
     fn last(&self) -> &Plan {
         &self.passed[self.passed.len() - 1]
     }
@@ -318,7 +320,12 @@ impl<'a> Unnesting<'a> {
         match change {
             Change::OtherRule => [1 + (usize::from(rule) + random.below(7)) as u8 % 8, place],
             Change::OtherPlace => [rule, place.wrapping_add(random.between(1, plan.size() + 2) as u8)],
-            Change::PastLastNode => [rule, random.pick(&[plan.size() as u8, plan.size() as u8 + 1, 64, 128, 254])],
+            Change::PastLastNode => {
+                // Also by as many places further as there are nodes, or can be.
+                let size = plan.size() as u8;
+                let [by_nodes, by_most] = [size, 64].map(|places| place.saturating_add(places));
+                [rule, random.pick(&[size, size + 1, 64, 128, 254, by_nodes, by_most])]
+            }
             Change::Place255 => [rule, 255],
             Change::OtherFit => {
                 let mut others = fitting_steps(plan, self.tables);
@@ -491,6 +498,7 @@ impl Met {
         }
     }
 
+    /// Counts a list and an end that are accepted.
     fn count_accepted(&mut self, unnesting: &Unnesting, sent: &Sent, checked: &Checked) {
         let own = unnesting.own();
         let sort = match &sent.steps {

@@ -127,6 +127,13 @@ impl Counts {
             + &format!("report {}; unnest {}; stay note answered {notes}\n", of_call(report), of_call(unnest))
     }
 
+    /// The counts of lists of steps made elsewhere, as lines of text.
+    pub fn elsewhere_lines(&self) -> String {
+        let [accepted, short, bad, different] = [0, 16, 20, 21].map(|number| self.checks[number]);
+        format!("lists of steps: accepted {accepted}, refused 16 {short}, 20 {bad}, 21 {different}\n")
+            + &self.elsewhere.lines()
+    }
+
     /// Counts a call (0 report, 1 unnest, 2 stay note) if it met 16 by the need before request K12 and does not now.
     fn count_no_longer_16(&mut self, call: usize, scratch: usize, before: usize, refusal: Option<u8>) {
         match refusal {

@@ -264,8 +264,7 @@ mod held {
                     .unwrap_or_else(|difference| panic!("input {number}, {start:?}, {change:?}, {difference}"));
             }
         }
-        println!("lists of every sort: {:?}", [0, 16, 20, 21].map(|number| (number, counts.checks[number])));
-        print!("{}", counts.elsewhere.lines());
+        print!("every start, change and end: {}", counts.elsewhere_lines());
         assert!([0, 16, 20, 21].iter().all(|&number| counts.checks[number] > 2_000), "{:?}", counts.checks);
     }
 
@@ -283,16 +282,17 @@ mod held {
         };
         let all = steps(&[0, 1, 2, 3, 4, 5, 6, 7, 8, 9, 255], &[0, 1, 4, 5, 255]);
         let fitting = steps(&[2, 3, 4, 7], &[0, 1, 5]);
-        for list in short_lists(&all, 2).into_iter().chain(short_lists(&fitting, 3)) {
-            let list = list.concat();
+        let lists = short_lists(&all, 2).into_iter().chain(short_lists(&fitting, 3)).map(|list| list.concat());
+        // And our own list cut at each byte.
+        let own = unnesting.own();
+        for list in lists.chain((0..=own.steps.len()).map(|length| own.steps[..length].to_vec())) {
             let checked = unnesting.checked(&list);
             for plan in &unnesting.passed {
                 let sent = Sent { steps: list.clone(), theirs: write_plan(plan) };
                 holder.hold(&mut random, &sent, &checked, checked.need()).expect("no difference");
             }
         }
-        // The own list to its last plan with each byte changed, cut at each byte, and with zeros put on; then with scratch around the need.
-        let own = unnesting.own();
+        // Our own list to its last plan with each byte changed, cut at each byte, and with zeros put on; then with scratch around the need.
         let checked = unnesting.checked(&own.steps);
         let length = own.theirs.len();
         for place in 0..length {
@@ -307,10 +307,10 @@ mod held {
         for scratch in checked.need() - 50..=checked.need() + 50 {
             holder.hold(&mut random, &own, &checked, scratch).expect("no difference");
         }
-        println!("lists of the sample club: {:?}", [0, 16, 20, 21].map(|number| (number, counts.checks[number])));
-        print!("{}", counts.elsewhere.lines());
-        // Accepted: the own list cut after none, one and two steps, each met twice, the whole of it once, and with as many cells as needed or more.
-        assert_eq!((counts.checks[0], counts.checks[16]), (3 + 4 + 51, 50));
+        print!("the sample club: {}", counts.elsewhere_lines());
+        // Accepted: our own list cut after none, one and two steps, each met thrice, the whole of it twice, and with as many cells as needed or
+        // more.
+        assert_eq!((counts.checks[0], counts.checks[16]), (3 * 3 + 2 + 51, 50));
     }
 
     /// The set of a table of these rows of two cells, each with its number in a third column, which tells equal rows apart.
