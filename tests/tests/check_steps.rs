@@ -186,6 +186,30 @@ fn u4_does_not_fit_where_the_sequences_differ() {
     assert_eq!(check(&club, &OWN, &after_u7, ROOMY), Err(21));
 }
 
+#[test]
+fn a_step_after_which_the_plan_would_be_refused_does_not_fit() {
+    // U3 makes the bound that of f: 64 x 64 rows with the Cross above it, or 65 x 64.
+    for (height, due) in [(64, Ok(())), (65, Err(21))] {
+        let keys_of_f: Vec<i64> = (0..height).map(|row| row % 4).collect();
+        let tables = vec![one_column(&[0, 1, 2, 3]), one_column(&keys_of_f), sized(1, 64)];
+        let matched = semi(0, 1, ALWAYS, distinct(&[0], scan(0, 0)), scan(1, 1));
+        let counted = group(Aggregate::Count, 3, keys(0, Equal, 1), scan(1, 1));
+        let last = cross(project(&[0], select(number_test(3, Greater, 0), counted)), scan(2, 2));
+        let input = Input { tables, plan: cross(matched, scan(2, 2)) };
+        assert_eq!(check(&input, &[(3, 1)], &last, ROOMY), due, "{height} rows");
+    }
+    // U7 adds a node: to 63 and not to 64.
+    for (size, due) in [(63, Ok(())), (64, Err(21))] {
+        let above = |plan: Plan| (plan.size()..size).fold(plan, |plan, _| select(ALWAYS, plan));
+        let test = number_test(1, Greater, 30);
+        let input = Input { tables: vec![sized(1, 2)], plan: above(semi(0, 1, test, scan(0, 0), scan(0, 1))) };
+        let place = size as u8 - 3;
+        let moved = semi(0, 1, ALWAYS, scan(0, 0), select(test, scan(0, 1)));
+        let last = (0..place).fold(moved, |plan, _| select(ALWAYS, plan));
+        assert_eq!(check(&input, &[(7, place)], &last, ROOMY), due, "{size} nodes");
+    }
+}
+
 // ---- scratch
 
 #[test]
