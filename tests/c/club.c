@@ -31,15 +31,18 @@ static void print_report(size_t set_len, size_t plan_len)
     printf("\n");
 }
 
+/* The steps and the plan left, and whether the two are accepted when they come back. */
 static void print_steps(size_t set_len, size_t plan_len)
 {
     uint64_t word = club_unnest(set, set_len, plan, plan_len, out_plan, sizeof out_plan, out_steps, sizeof out_steps,
                                 scratch, sizeof scratch / sizeof *scratch);
+    uint64_t checked = club_check_steps(set, set_len, plan, plan_len, out_steps, 2 * club_steps(word),
+                                        out_plan, club_plan_bytes(word), scratch, sizeof scratch / sizeof *scratch);
     size_t step;
     printf("unnest refusal %u bytes %zu steps %zu:", club_refusal(word), club_plan_bytes(word), club_steps(word));
     for (step = 0; step < club_steps(word); step++)
         printf(" U%u %u", out_steps[2 * step], out_steps[2 * step + 1]);
-    printf("\n");
+    printf("\ncheck refusal %u\n", club_refusal(checked));
 }
 
 static void print_notes(size_t set_len, size_t plan_len)

@@ -2,6 +2,7 @@
 //!
 //! Each buffer stands between canaries and is full of noise before the call. What a call may not change is compared with what it was.
 
+use crate::calls::whole_steps;
 use crate::convert::Way;
 use crate::nodes::LARGEST_PLAN;
 use crate::random::Random;
@@ -35,6 +36,18 @@ extern "C" {
         plan: *const u8,
         plan_len: usize,
         place: usize,
+        scratch: *mut u64,
+        scratch_len: usize,
+    ) -> u64;
+    fn club_check_steps(
+        set: *const u8,
+        set_len: usize,
+        plan: *const u8,
+        plan_len: usize,
+        steps: *const u8,
+        steps_len: usize,
+        theirs: *const u8,
+        theirs_len: usize,
         scratch: *mut u64,
         scratch_len: usize,
     ) -> u64;
@@ -107,6 +120,25 @@ pub fn stay_note_in(set: &[u8], plan: &[u8], place: usize, scratch: &mut [u64]) 
     }
 }
 
+/// The checking call on slices: its word.
+pub fn check_steps_in(set: &[u8], plan: &[u8], steps: &[u8], theirs: &[u8], scratch: &mut [u64]) -> u64 {
+    // As in `report_in`.
+    unsafe {
+        club_check_steps(
+            set.as_ptr(),
+            set.len(),
+            plan.as_ptr(),
+            plan.len(),
+            steps.as_ptr(),
+            steps.len(),
+            theirs.as_ptr(),
+            theirs.len(),
+            scratch.as_mut_ptr(),
+            scratch.len(),
+        )
+    }
+}
+
 /// The converter's call of a way on slices: its word.
 pub fn convert_in(way: Way, set: &[u8], plan: &[u8], out_set: &mut [u8], out_plan: &mut [u8]) -> u64 {
     let call: Convert = match way {
@@ -134,7 +166,7 @@ pub fn steps(set: &[u8], plan: &[u8], scratch_cells: usize) -> Vec<(u8, u8)> {
     let word = unnest_in(set, plan, &mut out_plan, &mut out_steps, &mut scratch);
     assert_eq!(word & 0xff, 0, "a plan that is accepted");
     let count = (word >> 8 & 0xffff) as usize;
-    out_steps.chunks(2).take(count).map(|step| (step[0], step[1])).collect()
+    whole_steps(&out_steps[..2 * count])
 }
 
 /// A buffer between canaries. All of it is noise at first, or what it was given.
@@ -292,6 +324,27 @@ pub fn stay_note(
     let mut scratch = Lent::of_noise(random, scratch_cells, cell);
     let word = stay_note_in(input.set.content(), input.plan.content(), place, scratch.lend());
     input.kept()?;
+    scratch.left_as_promised(word & 0xff)?;
+    Ok(word)
+}
+
+/// The checking call: its word.
+pub fn check_steps(
+    random: &mut Random,
+    set: &[u8],
+    plan: &[u8],
+    steps: &[u8],
+    theirs: &[u8],
+    scratch_cells: usize,
+) -> Result<u64, String> {
+    let input = Input::new(random, set, plan);
+    let (steps, theirs) = (Lent::with(random, steps, byte), Lent::with(random, theirs, byte));
+    let mut scratch = Lent::of_noise(random, scratch_cells, cell);
+    let word =
+        check_steps_in(input.set.content(), input.plan.content(), steps.content(), theirs.content(), scratch.lend());
+    input.kept()?;
+    steps.kept_from("steps", 0)?;
+    theirs.kept_from("theirs", 0)?;
     scratch.left_as_promised(word & 0xff)?;
     Ok(word)
 }

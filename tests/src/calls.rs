@@ -7,7 +7,7 @@ use crate::check::{columns, need, read_plan};
 use crate::evaluate::{Evaluator, Left};
 use crate::nodes::write_plan;
 use crate::plan::Plan;
-use crate::rules::{first_fit, stay_position, try_step};
+use crate::rules::{first_fit, fit, stay_position, try_step};
 use crate::tables::{read_set, Table};
 use crate::version::{Version, VERSION_2};
 
@@ -163,6 +163,79 @@ pub fn try_steps(set: &[u8], plan: &[u8], steps: &[(u8, u8)]) -> Result<Vec<u8>,
     Ok(write_plan(&tree))
 }
 
+/// The steps of a list, whose bytes are a rule and a place in turn: 20 where the length is odd or a rule is not one of 1 to 8.
+pub fn read_steps(bytes: &[u8]) -> Result<Vec<(u8, u8)>, u8> {
+    let steps = whole_steps(bytes);
+    if bytes.len() != 2 * steps.len() || steps.iter().any(|(rule, _)| !(1..=8).contains(rule)) {
+        return Err(20);
+    }
+    Ok(steps)
+}
+
+/// The whole steps of a list's bytes, whatever their rules. A byte left over at the end is none.
+pub fn whole_steps(bytes: &[u8]) -> Vec<(u8, u8)> {
+    bytes.chunks_exact(2).map(|step| (step[0], step[1])).collect()
+}
+
+/// The bytes of a list of steps.
+pub fn write_steps(steps: &[(u8, u8)]) -> Vec<u8> {
+    steps.iter().flat_map(|&(rule, place)| [rule, place]).collect()
+}
+
+/// Where a list of steps leads, up to the first one that does not fit.
+#[derive(Clone, Debug, PartialEq, Eq)]
+pub struct Followed {
+    /// The plans reached, the given one first. The last is the one at which a step does not fit, or the one that the whole list leaves.
+    pub reached: Vec<Plan>,
+    /// Whether every step fits.
+    pub all_fit: bool,
+}
+
+impl Followed {
+    /// The last plan reached.
+    pub fn last(&self) -> &Plan {
+        &self.reached[self.reached.len() - 1]
+    }
+
+    /// Whether the list and a plan made elsewhere are accepted with this scratch, where this is the largest need of the plans reached: 16
+    /// is tested before 21.
+    pub fn judged(&self, need: u64, theirs: &[u8], scratch_cells: usize) -> Result<(), u8> {
+        if (scratch_cells as u64) < need {
+            return Err(16);
+        }
+        if !self.all_fit || write_plan(self.last()) != theirs {
+            return Err(21);
+        }
+        Ok(())
+    }
+}
+
+/// Follows a list of steps from a tree. Each has to fit where it says, on the plan that the one before it left.
+pub fn follow(tree: &Plan, steps: &[(u8, u8)], tables: &[Table]) -> Followed {
+    let mut reached = vec![tree.clone()];
+    for &(rule, place) in steps {
+        match fit(&reached[reached.len() - 1], usize::from(place), tables) {
+            Some((fitting, after)) if fitting == rule => reached.push(after),
+            _ => return Followed { reached, all_fit: false },
+        }
+    }
+    Followed { reached, all_fit: true }
+}
+
+/// The checking call (request K7): refusals 1 to 14 of the set and the first plan, then 20 of the whole list, then 16 (the largest need of the
+/// plans reached), then 21. The plan made elsewhere is only compared, byte for byte.
+pub fn check_steps(set: &[u8], plan: &[u8], steps: &[u8], theirs: &[u8], scratch_cells: usize) -> Result<(), u8> {
+    let (tables, tree) = read(set, plan)?;
+    let followed = follow(&tree, &read_steps(steps)?, &tables);
+    followed.judged(largest_need(&followed.reached, &tables), theirs, scratch_cells)
+}
+
+/// The least scratch with which the checking call does not give 16, for an accepted plan and a list that is not refused 20.
+pub fn check_steps_need(set: &[u8], plan: &[u8], steps: &[u8]) -> Result<u64, u8> {
+    let (tables, tree) = read(set, plan)?;
+    Ok(largest_need(&follow(&tree, &read_steps(steps)?, &tables).reached, &tables))
+}
+
 /// What C gets from the reporting call.
 pub fn report_word(answer: Result<&Report, u8>) -> u64 {
     match answer {
@@ -186,6 +259,11 @@ pub fn stay_note_word(answer: &Result<Option<usize>, u8>) -> u64 {
         Ok(None) => 0,
         Err(number) => u64::from(*number),
     }
+}
+
+/// What C gets from the checking call: the refusal alone.
+pub fn check_steps_word(answer: Result<(), u8>) -> u64 {
+    u64::from(answer.err().unwrap_or(0))
 }
 
 /// The text of the listing program, given the scratch cells it has. Its other room is taken to suffice.

@@ -11,7 +11,7 @@ use crate::keys::AROUND_POWERS;
 use crate::nodes::write_plan;
 use crate::plan::{Aggregate, Comparison, Form, Keys, Plan, Test, ALWAYS, COMPARISONS};
 use crate::random::Random;
-use crate::rules::{fit, try_step};
+use crate::rules::{fitting_steps, try_step};
 use crate::tables::{write_set, Table};
 
 /// Tables and a plan over them.
@@ -879,16 +879,14 @@ pub fn steps(random: &mut Random, input: &Input) -> Vec<(u8, u8)> {
     let mut plan = input.plan.clone();
     let mut steps = Vec::new();
     for _ in 0..random.between(0, 12) {
-        let fitting: Vec<(u8, usize)> = (0..plan.size())
-            .filter_map(|place| fit(&plan, place, &input.tables).map(|(rule, _)| (rule, place)))
-            .collect();
+        let fitting = fitting_steps(&plan, &input.tables);
         let (rule, place) = if !fitting.is_empty() && random.chance(60) {
             random.pick(&fitting)
         } else {
-            (random.below(10) as u8, random.below(plan.size() + 3))
+            (random.below(10) as u8, random.below(plan.size() + 3) as u8)
         };
-        steps.push((rule, place as u8));
-        plan = try_step(&plan, rule, place, &input.tables);
+        steps.push((rule, place));
+        plan = try_step(&plan, rule, usize::from(place), &input.tables);
     }
     steps
 }

@@ -11,6 +11,9 @@ use crate::check::{need, need_before};
 use crate::convert::{convert_word, converted, Converted, Way};
 use crate::damage::{faults, Fault};
 use crate::downward::{decided_by_equal_rows, sorts_with_equal_rows};
+use crate::elsewhere::{
+    self, anything, with_several_places, Checked, End, Scratch, Sent, Start, Unnesting, ENDS, SCRATCHES,
+};
 use crate::evaluate::{column_cells, first_occurrences, Left};
 use crate::generate::{accepted, common_beginning, downward, in_place, steps, totals, unequal, with_between, Input};
 use crate::large;
@@ -27,10 +30,11 @@ use crate::wide::{narrowed, wide_totals};
 #[derive(Clone, Default)]
 pub struct Counts {
     pub inputs: usize,
-    /// Answers of the three calls by their number, 0 for none.
+    /// Answers of the calls by their number, 0 for none.
     pub reports: [usize; 17],
     pub unnestings: [usize; 17],
     pub stay_notes: [usize; 17],
+    pub checks: [usize; 22],
     /// Steps of the unnesting call by rule.
     pub rules: [usize; 9],
     /// Tried steps that fitted, by rule, and those that did not, at 0.
@@ -53,6 +57,8 @@ pub struct Counts {
     pub between: Met,
     /// What keys were looked up in, Sorts and inner plans.
     pub large: large::Met,
+    /// Lists of steps made elsewhere, and their ends.
+    pub elsewhere: elsewhere::Met,
     /// Accepted inputs whose need is below the one before request K12.
     pub smaller_needs: usize,
     /// Calls of the three that met 16 by the need before request K12 and do not now: those refused 15, and those answered.
@@ -62,9 +68,11 @@ pub struct Counts {
 impl Counts {
     /// The counts as lines of text.
     pub fn lines(&self) -> String {
-        let calls = [&self.reports, &self.unnestings, &self.stay_notes].map(|counts| counts.iter().sum::<usize>());
-        let by_number = |name: &str, counts: &[usize; 17]| {
-            let numbers: String = (1..=16).map(|number| format!(" {number}:{}", counts[number])).collect();
+        let answers = [&self.reports[..], &self.unnestings, &self.stay_notes, &self.checks];
+        let calls = answers.map(|counts| counts.iter().sum::<usize>());
+        let by_number = |name: &str, counts: &[usize]| {
+            let refused = (1..counts.len()).filter(|number| !(17..20).contains(number));
+            let numbers: String = refused.map(|number| format!(" {number}:{}", counts[number])).collect();
             format!("{name}: answered {}, refused{numbers}\n", counts[0])
         };
         let by_rule =
@@ -73,6 +81,7 @@ impl Counts {
             + &by_number("report", &self.reports)
             + &by_number("unnest", &self.unnestings)
             + &by_number("stay note", &self.stay_notes)
+            + &by_number("check steps", &self.checks)
             + &format!("notes with position 0 {}, with a later one {}, ", self.notes[0], self.notes[1])
             + &format!("where just one sequence has ended {}\n", self.ended)
             + &format!("sums that are numbers {}, blank {}, off scale {}\n", self.sums[0], self.sums[1], self.sums[2])
@@ -82,6 +91,7 @@ impl Counts {
             + &self.between.lines()
             + &self.large.lines()
             + &self.need_line()
+            + &self.elsewhere.lines()
             + &format!("steps of the unnesting call{}\n", by_rule(&self.rules))
             + &format!("tried steps that fitted{}, that did not {}\n", by_rule(&self.tried), self.tried[0])
     }
@@ -115,6 +125,13 @@ impl Counts {
         let of_call = |[short, answered]: [usize; 2]| format!("answered {answered}, refused 15 {short}");
         format!("needs below those before K12 {}; calls that met 16 by those and do not now: ", self.smaller_needs)
             + &format!("report {}; unnest {}; stay note answered {notes}\n", of_call(report), of_call(unnest))
+    }
+
+    /// The counts of lists of steps made elsewhere, as lines of text.
+    pub fn elsewhere_lines(&self) -> String {
+        let [accepted, short, bad, different] = [0, 16, 20, 21].map(|number| self.checks[number]);
+        format!("lists of steps: accepted {accepted}, refused 16 {short}, 20 {bad}, 21 {different}\n")
+            + &self.elsewhere.lines()
     }
 
     /// Counts a call (0 report, 1 unnest, 2 stay note) if it met 16 by the need before request K12 and does not now.
@@ -215,7 +232,8 @@ const WORK: u64 = 100_000;
 /// A random input: accepted; with one fault or two; or with bytes changed, cut off or put on anywhere.
 fn drawn(random: &mut Random, faults: &[Fault]) -> (Vec<u8>, Vec<u8>) {
     match random.below(100) {
-        0..=44 => bytes_of(&accepted(random)),
+        0..=42 => bytes_of(&accepted(random)),
+        43..=44 => bytes_of(&with_several_places(random)),
         45 => bytes_of(&wide_totals(random)),
         46..=47 => bytes_of(&large::large(random, WORK)),
         48..=49 => bytes_of(&in_place(random)),
@@ -278,7 +296,8 @@ pub fn hold(random: &mut Random, set: &[u8], plan: &[u8], counts: &mut Counts) -
     hold_report(random, set, plan, counts)?;
     hold_tried_steps(random, set, plan, counts)?;
     hold_unnest(random, set, plan, counts)?;
-    hold_stay_notes(random, set, plan, counts)
+    hold_stay_notes(random, set, plan, counts)?;
+    hold_check_steps(random, set, plan, counts)
 }
 
 /// One less than a room, or the same where there is none.
@@ -439,7 +458,7 @@ pub fn hold_unnest(random: &mut Random, set: &[u8], plan: &[u8], counts: &mut Co
         }
         let Ok(expected) = expected else { continue };
         expected.steps.iter().for_each(|&(rule, _)| counts.rules[usize::from(rule)] += 1);
-        if steps != expected.steps.iter().flat_map(|&(rule, place)| [rule, place]).collect::<Vec<u8>>() {
+        if steps != calls::write_steps(&expected.steps) {
             return Err(format!("{rooms}: the steps are {steps:?} and not {:?}", expected.steps));
         }
         if plan_left != expected.plan {
@@ -490,6 +509,112 @@ pub fn hold_stay_notes(random: &mut Random, set: &[u8], plan: &[u8], counts: &mu
         counts.ended += usize::from(position == values.len().min(keys.len()));
     }
     Ok(())
+}
+
+// ---- lists of steps made elsewhere
+
+/// The checking call: with the plan's own list and last plan, with scratch of exactly the unnesting call's need and of one cell less; with that
+/// list cut after each step, to the plan reached and to the last one; with one in another order; with random lists, ends and scratch; and
+/// where the input is refused, with anything.
+pub fn hold_check_steps(random: &mut Random, set: &[u8], plan: &[u8], counts: &mut Counts) -> Result<(), String> {
+    let (tables, tree) = match calls::read(set, plan) {
+        Ok(read) => read,
+        Err(number) => return hold_refused_check(random, set, plan, number, counts),
+    };
+    let unnesting = Unnesting::of(&tree, &tables);
+    let mut holder = SentHolder { set, plan, unnesting: &unnesting, counts };
+    let own = unnesting.own();
+    let need = calls::largest_need(&unnesting.passed, &tables) as usize;
+    let checked = unnesting.checked(&own.steps);
+    if checked.answer(&own.theirs, need).is_err() {
+        return Err(format!("our own list {:?} is not accepted", own.steps));
+    }
+    holder.hold(random, &own, &checked, need)?;
+    holder.hold(random, &own, &checked, below(need))?;
+    for steps in 0..unnesting.steps.len() {
+        let cut = &own.steps[..2 * steps];
+        holder.hold_made(random, cut, &[End::Reached, End::Own], &[Scratch::Largest])?;
+    }
+    if unnesting.steps.len() >= 2 {
+        let other = unnesting.started(random, Start::OtherOrder);
+        holder.hold_made(random, &other, &[End::Reached], &[Scratch::Largest])?;
+    }
+    for _ in 0..3 {
+        let steps = unnesting.list(random);
+        let end = if random.chance(60) { End::Reached } else { random.pick(&ENDS) };
+        let scratch = if random.chance(40) { Scratch::Largest } else { random.pick(&SCRATCHES) };
+        holder.hold_made(random, &steps, &[end], &[scratch])?;
+    }
+    Ok(())
+}
+
+/// The checking call on an input that is refused: whatever the list, the end and scratch are, the number is the input's.
+fn hold_refused_check(
+    random: &mut Random,
+    set: &[u8],
+    plan: &[u8],
+    number: u8,
+    counts: &mut Counts,
+) -> Result<(), String> {
+    for scratch in [0, random.below(5000)] {
+        let Sent { steps, theirs } = anything(random, plan);
+        let call = format!("check of {steps:?} with scratch {scratch}");
+        let word = archive::check_steps(random, set, plan, &steps, &theirs, scratch)
+            .map_err(|error| format!("{call}: {error}"))?;
+        counts.checks[usize::from(number)] += 1;
+        if word != u64::from(number) {
+            return Err(format!("{call}: the word is {word:#x} and not {number}"));
+        }
+    }
+    Ok(())
+}
+
+/// What holds the checking call on an accepted input.
+pub struct SentHolder<'a> {
+    pub set: &'a [u8],
+    pub plan: &'a [u8],
+    pub unnesting: &'a Unnesting<'a>,
+    pub counts: &'a mut Counts,
+}
+
+impl SentHolder<'_> {
+    /// The call with a list, with each of these ends beside each of these amounts of scratch.
+    pub fn hold_made(
+        &mut self,
+        random: &mut Random,
+        steps: &[u8],
+        ends: &[End],
+        scratches: &[Scratch],
+    ) -> Result<(), String> {
+        let checked = self.unnesting.checked(steps);
+        for &end in ends {
+            let theirs = self.unnesting.end(random, steps, &checked, end);
+            let sent = Sent { steps: steps.to_vec(), theirs };
+            for &scratch in scratches {
+                let cells = self.unnesting.scratch(random, &checked, scratch);
+                self.hold(random, &sent, &checked, cells)
+                    .map_err(|difference| format!("{end:?}, {scratch:?}: {difference}"))?;
+            }
+        }
+        Ok(())
+    }
+
+    /// The call with a list and its end, and this scratch.
+    pub fn hold(&mut self, random: &mut Random, sent: &Sent, checked: &Checked, scratch: usize) -> Result<(), String> {
+        let Sent { steps, theirs } = sent;
+        let shown = &steps[..steps.len().min(40)];
+        let call = format!("check of {} bytes of steps {shown:?} with scratch {scratch}", steps.len());
+        let expected = checked.answer(theirs, scratch);
+        let word = archive::check_steps(random, self.set, self.plan, steps, theirs, scratch)
+            .map_err(|error| format!("{call}: {error}"))?;
+        self.counts.checks[expected.err().map_or(0, usize::from)] += 1;
+        self.counts.elsewhere.count(self.unnesting, sent, checked, scratch);
+        let right = calls::check_steps_word(expected);
+        if word != right {
+            return Err(format!("{call}: the word is {word:#x} and not {right:#x}"));
+        }
+        Ok(())
+    }
 }
 
 // ---- the converter

@@ -18,6 +18,7 @@ pub mod damage;
 pub mod downward;
 pub mod drawings;
 pub mod edges;
+pub mod elsewhere;
 pub mod evaluate;
 pub mod generate;
 #[cfg(archive)]

@@ -28,6 +28,11 @@ pub fn fit(plan: &Plan, place: usize, tables: &[Table]) -> Option<(u8, Plan)> {
     Some((proposal.rule, after))
 }
 
+/// Every step that fits (rule, place), by place.
+pub fn fitting_steps(plan: &Plan, tables: &[Table]) -> Vec<(u8, u8)> {
+    (0..plan.size()).filter_map(|place| fit(plan, place, tables).map(|(rule, _)| (rule, place as u8))).collect()
+}
+
 /// The smallest place where a rule fits, the rule, and the plan after it.
 pub fn first_fit(plan: &Plan, tables: &[Table]) -> Option<(usize, u8, Plan)> {
     (0..plan.size()).find_map(|place| fit(plan, place, tables).map(|(rule, after)| (place, rule, after)))

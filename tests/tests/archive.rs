@@ -9,10 +9,12 @@ mod held {
     use second::cells::{is_number, BLANK, LARGEST, OFF_SCALE};
     use second::check::columns;
     use second::convert::Way;
-    use second::edges::edges;
+    use second::edges::{club, edges};
+    use second::elsewhere::{with_several_places, Scratch, Sent, Unnesting, CHANGES, ENDS, SCRATCHES, STARTS};
     use second::generate::Input;
     use second::held::{
-        hold, hold_conversions, hold_convert, hold_report, hold_seeds, hold_unnest, Conversions, Counts,
+        hold, hold_check_steps, hold_conversions, hold_convert, hold_report, hold_seeds, hold_unnest, Conversions,
+        Counts, SentHolder,
     };
     use second::in_place::{over, plan_of, tables, Operator, Tree};
     use second::nodes::{write_plan, write_plan_in};
@@ -50,6 +52,14 @@ mod held {
         let [report, unnest, [_, notes]] = counts.no_longer_16;
         assert!(counts.smaller_needs >= 5_000, "{}", counts.smaller_needs);
         assert!(met(&report, 2_000) && met(&unnest, 2_000) && notes >= 2_000, "{:?}", counts.no_longer_16);
+        let checks = counts.checks;
+        assert!(met(&checks[..15], 20) && checks[15..].iter().sum::<usize>() == checks[16] + checks[20] + checks[21]);
+        assert!([checks[0], checks[16], checks[20], checks[21]].iter().all(|&count| count >= 5_000), "{checks:?}");
+        let elsewhere = &counts.elsewhere;
+        assert!(met(&elsewhere.accepted, 1_000) && met(&elsewhere.ends, 100), "{elsewhere:?}");
+        assert!(met(&elsewhere.refused_21, 300) && met(&elsewhere.refused_20, 500), "{elsewhere:?}");
+        assert!(met(&elsewhere.refused_16, 100) && met(&elsewhere.before_21, 300), "{elsewhere:?}");
+        assert!(elsewhere.after_misfit >= 1_000, "{elsewhere:?}");
     }
 
     #[test]
@@ -233,6 +243,76 @@ mod held {
         assert!(counts[0][25] == 0 && counts[1][25] >= 100, "{counts:?}");
     }
 
+    /// How many inputs are held with every sort of list, end and scratch.
+    const OFFICES: u64 = 20;
+
+    #[test]
+    fn k7_lists_of_every_sort_are_checked_as_by_the_second_evaluator() {
+        let mut counts = Counts::default();
+        let mut random = Random::new(23);
+        let several = (0..OFFICES).map(|_| with_several_places(&mut random)).collect::<Vec<_>>();
+        for (number, input) in several.iter().chain([&club()]).enumerate() {
+            let (set, plan) = (input.set_bytes(), input.plan_bytes());
+            let unnesting = Unnesting::of(&input.plan, &input.tables);
+            let mut holder = SentHolder { set: &set, plan: &plan, unnesting: &unnesting, counts: &mut counts };
+            for (start, change) in STARTS.iter().flat_map(|&start| CHANGES.map(|change| (start, change))) {
+                let mut list = unnesting.started(&mut random, start);
+                unnesting.change(&mut random, &mut list, change);
+                holder
+                    .hold_made(&mut random, &list, &ENDS, &[Scratch::Largest])
+                    .and_then(|()| holder.hold_made(&mut random, &list, &ENDS[..3], &SCRATCHES))
+                    .unwrap_or_else(|difference| panic!("input {number}, {start:?}, {change:?}, {difference}"));
+            }
+        }
+        print!("every start, change and end: {}", counts.elsewhere_lines());
+        assert!([0, 16, 20, 21].iter().all(|&number| counts.checks[number] > 2_000), "{:?}", counts.checks);
+    }
+
+    #[test]
+    fn k7_short_lists_and_changed_ends_of_the_sample_club() {
+        let mut counts = Counts::default();
+        let mut random = Random::new(24);
+        let input = club();
+        let (set, plan) = (input.set_bytes(), input.plan_bytes());
+        let unnesting = Unnesting::of(&input.plan, &input.tables);
+        let mut holder = SentHolder { set: &set, plan: &plan, unnesting: &unnesting, counts: &mut counts };
+        // All lists of up to two steps by every rule and those around, and of up to three by few rules, at places up to past the last node.
+        let steps = |rules: &[u8], places: &[u8]| -> Vec<[u8; 2]> {
+            rules.iter().flat_map(|&rule| places.iter().map(move |&place| [rule, place])).collect()
+        };
+        let all = steps(&[0, 1, 2, 3, 4, 5, 6, 7, 8, 9, 255], &[0, 1, 4, 5, 255]);
+        let fitting = steps(&[2, 3, 4, 7], &[0, 1, 5]);
+        let lists = short_lists(&all, 2).into_iter().chain(short_lists(&fitting, 3)).map(|list| list.concat());
+        // And our own list cut at each byte.
+        let own = unnesting.own();
+        for list in lists.chain((0..=own.steps.len()).map(|length| own.steps[..length].to_vec())) {
+            let checked = unnesting.checked(&list);
+            for plan in &unnesting.passed {
+                let sent = Sent { steps: list.clone(), theirs: write_plan(plan) };
+                holder.hold(&mut random, &sent, &checked, checked.need()).expect("no difference");
+            }
+        }
+        // Our own list to its last plan with each byte changed, cut at each byte, and with zeros put on; then with scratch around the need.
+        let checked = unnesting.checked(&own.steps);
+        let length = own.theirs.len();
+        for place in 0..length {
+            let mut changed = own.theirs.clone();
+            changed[place] ^= 1 << (place % 8);
+            let longer = [&own.theirs[..], &vec![0; place + 1]].concat();
+            for theirs in [changed, own.theirs[..place].to_vec(), longer] {
+                let sent = Sent { theirs, ..own.clone() };
+                holder.hold(&mut random, &sent, &checked, checked.need()).expect("no difference");
+            }
+        }
+        for scratch in checked.need() - 50..=checked.need() + 50 {
+            holder.hold(&mut random, &own, &checked, scratch).expect("no difference");
+        }
+        print!("the sample club: {}", counts.elsewhere_lines());
+        // Accepted: our own list cut after none, one and two steps, each met thrice, the whole of it twice, and with as many cells as needed or
+        // more.
+        assert_eq!((counts.checks[0], counts.checks[16]), (3 * 3 + 2 + 51, 50));
+    }
+
     /// The set of a table of these rows of two cells, each with its number in a third column, which tells equal rows apart.
     fn numbered(cells: &[[i64; 2]]) -> Vec<u8> {
         let rows = cells.iter().zip(1..).map(|(&[one, other], number)| vec![one, other, number]).collect();
@@ -320,7 +400,8 @@ mod held {
             ] {
                 let bytes = write_plan(&plan);
                 let held = hold_report(&mut random, &set, &bytes, &mut counts)
-                    .and_then(|()| hold_unnest(&mut random, &set, &bytes, &mut counts));
+                    .and_then(|()| hold_unnest(&mut random, &set, &bytes, &mut counts))
+                    .and_then(|()| hold_check_steps(&mut random, &set, &bytes, &mut counts));
                 differences.extend(held.err().map(|difference| format!("{plan:?}: {difference}")));
             }
         }

@@ -2,7 +2,7 @@
 #![cfg(archive)]
 
 use second::build::*;
-use second::calls::{report, stay_note, unnest, ROOMY};
+use second::calls::{check_steps, report, stay_note, unnest, write_steps, ROOMY};
 use second::cells::LARGEST;
 use second::convert::{convert, Converted, Way};
 use second::edges::club;
@@ -45,13 +45,18 @@ fn expected(set: &[u8], plan: &[u8]) -> String {
         }
         Err(number) => format!("report refusal {number} rows 0 columns 0:\n"),
     };
-    text += &match unnest(set, plan, ROOMY, ROOMY, ROOMY) {
+    let left = unnest(set, plan, ROOMY, ROOMY, ROOMY);
+    text += &match &left {
         Ok(left) => {
             let steps: String = left.steps.iter().map(|(rule, place)| format!(" U{rule} {place}")).collect();
             format!("unnest refusal 0 bytes {} steps {}:{steps}\n", left.plan.len(), left.steps.len())
         }
         Err(number) => format!("unnest refusal {number} bytes 0 steps 0:\n"),
     };
+    // Its own steps and plan are checked; where the input is refused there are none.
+    let (steps, theirs) = left.map_or((vec![], vec![]), |left| (write_steps(&left.steps), left.plan));
+    let checked = check_steps(set, plan, &steps, &theirs, ROOMY);
+    text += &format!("check refusal {}\n", checked.err().unwrap_or(0));
     for place in 0..3 {
         text += &match stay_note(set, plan, place, ROOMY) {
             Ok(Some(position)) => format!("note at {place}: position {position}\n"),

@@ -6,7 +6,7 @@ use second::cells::{BLANK, LARGEST, OFF_SCALE};
 use second::check::{check_tree, columns};
 use second::evaluate::first_occurrences;
 use second::generate::Input;
-use second::held::{hold_rooms, hold_stay_notes, hold_unnest, Counts, Due};
+use second::held::{hold_check_steps, hold_rooms, hold_stay_notes, hold_unnest, Counts, Due};
 use second::keys::{
     alike_above, alike_below, anywhere, arrange, folded_alike, in_bucket_of, rows_in_one_bucket, Order, AROUND_POWERS,
     ORDERS,
@@ -72,7 +72,8 @@ fn random_plans_over_many_rows_are_reported_as_by_the_second_evaluator() {
             unnested += 1;
             held = held
                 .and_then(|()| hold_unnest(&mut random, &set, &plan, &mut counts))
-                .and_then(|()| hold_stay_notes(&mut random, &set, &plan, &mut counts));
+                .and_then(|()| hold_stay_notes(&mut random, &set, &plan, &mut counts))
+                .and_then(|()| hold_check_steps(&mut random, &set, &plan, &mut counts));
         }
         held.unwrap_or_else(|difference| panic!("seed {seed}: {difference}"));
     }
