@@ -29,11 +29,11 @@ shared-slice-read-rule c = omega arith
 
 -- src/check_steps.rt:29:13
 returns-2 : tie.Need-returns-2 Inv-loop μ-loop
-returns-2 c = list-rules (c .before .before .before .before .before .args .steps .now) (c .before .before .before .before .if1 .left) false (c .before .before .before .loop .inv .1 ∙ rules-low (c .before .before .before .before .before .args .steps .now) (c .before .before .before .before .if1 .left) (c .before .before .before .loop .i) (c .before .before .before .loop .inv .0) (c .before .before .loop-test .taken) (c .if2 .taken))
+returns-2 c = list-rules (c .before .before .before .before .before .args .steps .now) (c .before .before .before .before .if1 .left) false (c .before .before .before .loop .inv .1 ∙ rules-low (c .before .before .before .before .before .args .steps .now) (c .before .before .before .before .if1 .left) (c .before .before .before .loop .i) (c .before .before .before .loop .inv .0) (c .before .before .loop-test .taken) (omega (arith, c .if2 .taken)))
 
 -- src/check_steps.rt:32:13
 returns-3 : tie.Need-returns-3 Inv-loop μ-loop
-returns-3 c = list-rules (c .before .before .before .before .before .before .args .steps .now) (c .before .before .before .before .before .if1 .left) false (c .before .before .before .before .loop .inv .1 ∙ rules-high (c .before .before .before .before .before .before .args .steps .now) (c .before .before .before .before .before .if1 .left) (c .before .before .before .before .loop .i) (c .before .before .before .before .loop .inv .0) (c .before .before .before .loop-test .taken) (c .if3 .taken))
+returns-3 c = list-rules (c .before .before .before .before .before .before .args .steps .now) (c .before .before .before .before .before .if1 .left) false (c .before .before .before .before .loop .inv .1 ∙ rules-high (c .before .before .before .before .before .before .args .steps .now) (c .before .before .before .before .before .if1 .left) (c .before .before .before .before .loop .i) (c .before .before .before .before .loop .inv .0) (c .before .before .before .loop-test .taken) (omega (arith, c .if3 .taken)))
 
 -- src/check_steps.rt:34:9
 add-i : tie.Need-add-i Inv-loop μ-loop
@@ -45,7 +45,7 @@ loop-less c = omega arith
 
 -- src/check_steps.rt:26:5
 loop-again : tie.Need-loop-again Inv-loop μ-loop
-loop-again c = (omega arith, c .before .before .before .before .loop .inv .1 ∙ rules-next (c .before .before .before .before .before .before .args .steps .now) (c .before .before .before .before .before .if1 .left) (c .before .before .before .before .loop .i) (c .before .before .before .before .loop .inv .0) (c .before .before .before .loop-test .taken) (c .before .if2 .left) (c .if3 .left))
+loop-again c = (omega arith, c .before .before .before .before .loop .inv .1 ∙ rules-next (c .before .before .before .before .before .before .args .steps .now) (c .before .before .before .before .before .if1 .left) (c .before .before .before .before .loop .i) (c .before .before .before .before .loop .inv .0) (c .before .before .before .loop-test .taken) (omega (arith, c .before .if2 .left)) (omega (arith, c .if3 .left)))
 
 -- src/check_steps.rt:18:1
 returns-4 : tie.Need-returns-4 Inv-loop μ-loop
