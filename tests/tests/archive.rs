@@ -244,13 +244,13 @@ mod held {
     }
 
     /// How many inputs are held with every sort of list, end and scratch.
-    const OFFICES: u64 = 20;
+    const CHECKED_INPUTS: u64 = 20;
 
     #[test]
     fn k7_lists_of_every_sort_are_checked_as_by_the_second_evaluator() {
         let mut counts = Counts::default();
         let mut random = Random::new(23);
-        let several = (0..OFFICES).map(|_| with_several_places(&mut random)).collect::<Vec<_>>();
+        let several = (0..CHECKED_INPUTS).map(|_| with_several_places(&mut random)).collect::<Vec<_>>();
         for (number, input) in several.iter().chain([&club()]).enumerate() {
             let (set, plan) = (input.set_bytes(), input.plan_bytes());
             let unnesting = Unnesting::of(&input.plan, &input.tables);
