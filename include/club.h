@@ -3,10 +3,10 @@
  * Link with libcabi.a, which `rt staticlib cabi` writes to target/staticlib/ once everything is proved (x86-64 Linux). The archive needs
  * nothing but the C library.
  *
- * The set of tables, the plan, a list of steps and the plan theirs are any bytes. A buffer is a pointer and the number of its elements (not of its bytes, where an
- * element is wider than one). What the caller owes: a pointer is not null, not even with length 0; it is aligned for its element;
- * so many elements can be read, and those of out, out_set, out_plan, out_steps and scratch written; and a buffer that is written overlaps no
- * other. No call allocates, keeps a pointer, or fails in any other way than by a refusal number.
+ * The set of tables, the plan, a list of steps and the plan theirs are any bytes. A buffer is a pointer and the number of its elements (not
+ * of its bytes, where an element is wider than one). What the caller owes: a pointer is not null, not even with length 0; it is aligned for
+ * its element; so many elements can be read, and those of out, out_set, out_plan, out_steps and scratch written; and a buffer that is written
+ * overlaps no other. No call allocates, keeps a pointer, or fails in any other way than by a refusal number.
  *
  * Tables and plans are of version 2, but for those that the converter takes up from version 1 and gives back in it. A cell is a signed
  * 64-bit code: a number from -9,000,000,000,000,000 to 9,000,000,000,000,000, or one of the two codes below. A set has at most 1,024,064
