@@ -1,5 +1,6 @@
 //! The cases that the reading program is held against: what is in them, and the answers.
 
+use crate::build::*;
 use crate::calls::read;
 use crate::check::need;
 use crate::damage::{damaged, faults, set_pairs, Fault};
@@ -8,7 +9,7 @@ use crate::generate::{accepted, Input};
 use crate::nodes::write_plan;
 use crate::plan::Plan;
 use crate::random::Random;
-use crate::tables::write_set;
+use crate::tables::{write_set, Table};
 use crate::version::{Version, VERSION_1, VERSION_2};
 use crate::wide::narrowed;
 
@@ -121,4 +122,27 @@ fn deciding(faults: &[&Fault]) -> Option<u8> {
         return None;
     }
     faults.iter().min_by_key(|fault| fault.rank).map(|fault| fault.number)
+}
+
+/// An input that is refused for each of 1 to 14, short enough to be read: the number, the set and the plan.
+pub fn one_of_each_refusal() -> Vec<(u8, Vec<u8>, Vec<u8>)> {
+    let unit = write_plan(&Plan::Unit);
+    let wide = cross(cross(scan(0, 0), scan(0, 16)), scan(0, 32));
+    let of = |number, tables: Vec<Table>, plan: Plan| (number, write_set(&tables), write_plan(&plan));
+    vec![
+        (1, b"TB".to_vec(), unit.clone()),
+        (2, b"TBX\x02\x00\x01\x00\x00".to_vec(), unit.clone()),
+        (3, b"TBL\x02\x00\x11\x00\x00".to_vec(), unit.clone()),
+        of(4, vec![one_column(&[9_000_000_000_000_001])], Plan::Unit),
+        of(5, vec![sized(1, 1); 9], Plan::Unit),
+        (6, vec![], unit[..5].to_vec()),
+        (7, vec![], b"RPT\x01\x00\x01".to_vec()),
+        (8, vec![], b"RPT\x02\x00\x00".to_vec()),
+        (9, vec![], [&b"RPT\x02\x00\x01\x0f"[..], &[0; 31]].concat()),
+        (10, vec![], [&b"RPT\x02\x00\x01\x02"[..], &[0; 31]].concat()),
+        of(11, vec![], scan(0, 0)),
+        of(12, vec![sized(4, 1)], project(&[3, 3], scan(0, 0))),
+        of(13, vec![sized(16, 1)], wide),
+        of(14, vec![sized(1, 65), sized(1, 64)], cross(scan(0, 0), scan(1, 1))),
+    ]
 }

@@ -3,7 +3,7 @@
 
 use second::build::*;
 use second::calls::*;
-use second::cases::fault_case;
+use second::cases::{fault_case, one_of_each_refusal};
 use second::cells::BLANK;
 use second::damage::faults;
 use second::edges::{club, edges};
@@ -306,27 +306,9 @@ fn the_last_plan_can_need_the_most() {
 
 #[test]
 fn the_set_and_the_first_plan_come_before_the_list() {
-    let unit = write_plan(&Plan::Unit);
-    let (club, wide) = (club(), cross(cross(scan(0, 0), scan(0, 16)), scan(0, 32)));
-    let refused = |input: Input| (input.set_bytes(), input.plan_bytes());
-    let cases = [
-        (1, (b"TB".to_vec(), unit.clone())),
-        (2, (b"TBX\x02\x00\x01\x00\x00".to_vec(), unit.clone())),
-        (3, (b"TBL\x02\x00\x11\x00\x00".to_vec(), unit.clone())),
-        (4, refused(Input { tables: vec![one_column(&[9_000_000_000_000_001])], plan: Plan::Unit })),
-        (5, refused(Input { tables: vec![sized(1, 1); 9], plan: Plan::Unit })),
-        (6, (vec![], unit[..5].to_vec())),
-        (7, (vec![], b"RPT\x01\x00\x01".to_vec())),
-        (8, (vec![], b"RPT\x02\x00\x00".to_vec())),
-        (9, (vec![], [&b"RPT\x02\x00\x01\x0f"[..], &[0; 31]].concat())),
-        (10, (vec![], [&b"RPT\x02\x00\x01\x02"[..], &[0; 31]].concat())),
-        (11, refused(Input { tables: vec![], plan: scan(0, 0) })),
-        (12, refused(Input { tables: vec![sized(4, 1)], plan: project(&[3, 3], scan(0, 0)) })),
-        (13, refused(Input { tables: vec![sized(16, 1)], plan: wide })),
-        (14, refused(Input { tables: vec![sized(1, 65), sized(1, 64)], plan: cross(scan(0, 0), scan(1, 1)) })),
-    ];
+    let club = club();
     let right = club.plan_bytes();
-    for (number, (set, plan)) in cases {
+    for (number, set, plan) in one_of_each_refusal() {
         for (list, scratch) in [(&[][..], ROOMY), (&[2], ROOMY), (&[0, 0], 0), (&[9, 0], 0), (&[], 0), (&[1, 0], 0)] {
             assert_eq!(check_steps(&set, &plan, list, &right, scratch), Err(number), "{list:?}");
             assert_eq!(check_steps(&set, &plan, list, &plan, scratch), Err(number), "{list:?}");
