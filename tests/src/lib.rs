@@ -9,6 +9,7 @@
 pub mod archive;
 pub mod between;
 pub mod build;
+pub mod by_hand;
 pub mod calls;
 pub mod cases;
 pub mod cells;
@@ -20,6 +21,7 @@ pub mod drawings;
 pub mod edges;
 pub mod elsewhere;
 pub mod evaluate;
+pub mod funds;
 pub mod generate;
 #[cfg(archive)]
 pub mod held;
@@ -30,6 +32,7 @@ pub mod listings;
 pub mod nodes;
 pub mod pages;
 pub mod plan;
+pub mod prizes;
 pub mod random;
 pub mod rules;
 #[cfg(target_os = "linux")]
