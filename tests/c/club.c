@@ -57,6 +57,19 @@ static void print_notes(size_t set_len, size_t plan_len)
     }
 }
 
+/* The prize fund table of a purse of 1,001 pence, with shares that sum to 10,000 where there are three of them. */
+static void print_prizes(size_t set_len, size_t plan_len, size_t count)
+{
+    static const uint32_t shares[3] = {5000, 3000, 2000};
+    uint64_t word = club_prize(set, set_len, plan, plan_len, 1001, shares, count, out, sizeof out / sizeof *out,
+                               scratch, sizeof scratch / sizeof *scratch);
+    size_t cell;
+    printf("prizes refusal %u rows %zu club line %" PRIu64 ":", club_refusal(word), club_prize_rows(word), club_line(word));
+    for (cell = 0; cell < 2 * club_prize_rows(word); cell++)
+        printf(" %" PRId64, out[cell]);
+    printf("\n");
+}
+
 /* Down to version 1, and what was given up again. */
 static void print_converted(size_t set_len, size_t plan_len)
 {
@@ -77,6 +90,8 @@ int main(int count, char **names)
     print_report(set_len, plan_len);
     print_steps(set_len, plan_len);
     print_notes(set_len, plan_len);
+    print_prizes(set_len, plan_len, 3);
+    print_prizes(set_len, plan_len, 2);
     print_converted(set_len, plan_len);
     return 0;
 }

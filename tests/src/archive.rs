@@ -5,6 +5,7 @@
 use crate::calls::whole_steps;
 use crate::convert::Way;
 use crate::nodes::LARGEST_PLAN;
+use crate::prizes::Fund;
 use crate::random::Random;
 
 extern "C" {
@@ -48,6 +49,19 @@ extern "C" {
         steps_len: usize,
         theirs: *const u8,
         theirs_len: usize,
+        scratch: *mut u64,
+        scratch_len: usize,
+    ) -> u64;
+    fn club_prize(
+        set: *const u8,
+        set_len: usize,
+        plan: *const u8,
+        plan_len: usize,
+        purse: u64,
+        shares: *const u32,
+        shares_len: usize,
+        out: *mut i64,
+        out_len: usize,
         scratch: *mut u64,
         scratch_len: usize,
     ) -> u64;
@@ -133,6 +147,26 @@ pub fn check_steps_in(set: &[u8], plan: &[u8], steps: &[u8], theirs: &[u8], scra
             steps.len(),
             theirs.as_ptr(),
             theirs.len(),
+            scratch.as_mut_ptr(),
+            scratch.len(),
+        )
+    }
+}
+
+/// The prize call on slices: its word.
+pub fn prize_in(set: &[u8], plan: &[u8], purse: u64, shares: &[u32], out: &mut [i64], scratch: &mut [u64]) -> u64 {
+    // As in `report_in`.
+    unsafe {
+        club_prize(
+            set.as_ptr(),
+            set.len(),
+            plan.as_ptr(),
+            plan.len(),
+            purse,
+            shares.as_ptr(),
+            shares.len(),
+            out.as_mut_ptr(),
+            out.len(),
             scratch.as_mut_ptr(),
             scratch.len(),
         )
@@ -260,6 +294,10 @@ fn code(bits: u64) -> i64 {
     bits as i64
 }
 
+fn share(bits: u64) -> u32 {
+    bits as u32
+}
+
 /// A cell of noise, never 0, so that a cell that was not cleared shows.
 fn cell(bits: u64) -> u64 {
     bits | 1
@@ -347,6 +385,32 @@ pub fn check_steps(
     theirs.kept_from("theirs", 0)?;
     scratch.left_as_promised(word & 0xff)?;
     Ok(word)
+}
+
+/// The prize call: its word, and the cells that it wrote, two for each row that it says.
+pub fn prize(
+    random: &mut Random,
+    set: &[u8],
+    plan: &[u8],
+    fund: &Fund,
+    out_cells: usize,
+    scratch_cells: usize,
+) -> Result<(u64, Vec<i64>), String> {
+    let input = Input::new(random, set, plan);
+    let shares = Lent::with(random, &fund.shares, share);
+    let mut out = Lent::of_noise(random, out_cells, code);
+    let mut scratch = Lent::of_noise(random, scratch_cells, cell);
+    let (set, plan) = (input.set.content(), input.plan.content());
+    let word = prize_in(set, plan, fund.purse, shares.content(), out.lend(), scratch.lend());
+    input.kept()?;
+    shares.kept_from("shares", 0)?;
+    scratch.left_as_promised(word & 0xff)?;
+    let written = 2 * (word >> 8 & 0xffff) as usize;
+    if written > out_cells {
+        return Err(format!("word {word:#x} tells of more cells than there is room for"));
+    }
+    out.kept_from("output", written)?;
+    Ok((word, out.content()[..written].to_vec()))
 }
 
 /// The converter's call of a way: its word, and the set and plan bytes that it wrote, so many as it says.

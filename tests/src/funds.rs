@@ -317,15 +317,16 @@ fn drawn(random: &mut Random) -> Input {
     let other = sized(random.between(1, 16), random.between(0, 6));
     let tables = vec![players_and_scores(random, columns, height, two), other];
     let listed = list_with(random, columns, two, first);
-    let plan = match random.below(12) {
+    let plan = match random.below(14) {
         0 => scan(0, first),
         1..=3 => project(&listed, scan(0, first)),
         4..=8 => over_rows(random, scan(0, first), &listed),
-        9 => {
+        9 => crossed(random, first),
+        10 => {
             let rows = crossed(random, first);
             over_rows(random, rows, &listed)
         }
-        10 => totals(random, first, &listed),
+        11 => totals(random, first, &listed),
         _ => one_column_or_none(random, first, &listed),
     };
     Input { tables, plan }
@@ -356,23 +357,21 @@ fn over_rows(random: &mut Random, rows: Plan, listed: &[u8]) -> Plan {
     }
 }
 
-/// Players with the totals of their scores, by a Group, a Fold or a Pair, in either order.
+/// Players with the totals of their scores, by a Group, a Fold or a Pair, in any order.
 fn totals(random: &mut Random, first: u8, listed: &[u8]) -> Plan {
     let (player, score) = (listed[0], listed[1]);
     let aggregate =
         random.pick(&[Aggregate::Sum(score), Aggregate::Count, Aggregate::Least(score), Aggregate::Greatest(score)]);
-    let rows = scan(0, first);
-    let left = || distinct(&[player - first + 130], scan(0, 130));
-    let key = player - first + 130;
-    let (plan, total) = match random.below(3) {
-        0 => (group(aggregate, 251, keys(250, Equal, player), rows), 251),
-        1 => (fold(aggregate, 251, columns_test(key, Equal, player), left(), rows), 251),
-        _ => (pair(aggregate, 251, keys(key, Equal, player), left(), rows), 251),
+    let (rows, key, total) = (scan(0, first), 130 + player - first, 251);
+    let left = distinct(&[key], scan(0, 130));
+    let plan = match random.below(3) {
+        0 => group(aggregate, total, keys(250, Equal, player), rows),
+        1 => fold(aggregate, total, columns_test(key, Equal, player), left, rows),
+        _ => pair(aggregate, total, keys(key, Equal, player), left, rows),
     };
-    if random.chance(60) {
-        sort(random.chance(50), &[total], plan)
-    } else {
-        plan
+    match random.below(3) {
+        0 => plan,
+        way => sort(way == 1, &[total], plan),
     }
 }
 
@@ -500,22 +499,31 @@ impl Met {
 
     /// The counts as lines of text.
     pub fn lines(&self) -> String {
+        self.table_lines() + &self.refusal_line()
+    }
+
+    /// The counts of tables that are given, as two lines of text.
+    pub fn table_lines(&self) -> String {
         let [to_zero, past] = self.left_over;
         let [no_numbers, unpaid] = self.club_lines;
         let [none, few, more, many] = self.rows;
-        let [purse, count, sum, in_16, in_32] = self.refused_17;
-        let order: Vec<String> =
-            ORDER.iter().zip(self.before).map(|([one, other], met)| format!("{one} before {other} {met}")).collect();
         format!("prize pools {}, across the last share {}, with odd pence {}; ", self.ties, self.across, self.odd_pence)
             + &format!("tables with a blank or off-scale score inside a tie {}, ", self.inside)
-            + &format!("with such players {}; ", self.players)
+            + &format!("with such a player {}; ", self.players)
             + &format!("club lines not 0 by scores {no_numbers}, by places past the last row {unpaid}\n")
-            + &format!("pence left over to a share of 0 {to_zero}, past the last row {past}; ")
+            + &format!("tables whose pence left over reach a share of 0 {to_zero}, a place past the last row {past}; ")
             + &format!(
                 "tables of no rows {none}, up to the last share {few}, past it {more}, of 1,000 or more {many}\n"
             )
-            + &format!("17 for the purse {purse}, the number of shares {count}, their sum {sum}, ")
-            + &format!("right in 16 bits {in_16}, in 32 {in_32}; {}\n", order.join(", "))
+    }
+
+    /// The counts of refused funds and of two faults at once, as a line of text.
+    pub fn refusal_line(&self) -> String {
+        let [purse, count, sum, in_16, in_32] = self.refused_17;
+        let of_two = |([one, other], met): (&[u8; 2], usize)| format!("{one} before {other} {met}");
+        let order: Vec<String> = ORDER.iter().zip(self.before).map(of_two).collect();
+        format!("17 for the purse {purse}, the number of shares {count}, their sum {sum}, ")
+            + &format!("one that is right in 16 bits {in_16}, in 32 {in_32}; {}\n", order.join(", "))
     }
 }
 

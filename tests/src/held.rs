@@ -15,11 +15,13 @@ use crate::elsewhere::{
     self, anything, with_several_places, Checked, End, Scratch, Sent, Start, Unnesting, ENDS, SCRATCHES,
 };
 use crate::evaluate::{column_cells, first_occurrences, Left};
+use crate::funds::{self, fund, prize_day, FundSort, FUND_SORTS};
 use crate::generate::{accepted, common_beginning, downward, in_place, steps, totals, unequal, with_between, Input};
 use crate::large;
 use crate::nodes::write_plan_in;
 use crate::plan::Comparison::NotEqual;
 use crate::plan::{Aggregate, Form, Plan, Test};
+use crate::prizes::{prize_word, prizes_within, Fund};
 use crate::random::Random;
 use crate::rules::{sequences, stay_position};
 use crate::tables::{write_set_in, Table};
@@ -35,6 +37,7 @@ pub struct Counts {
     pub unnestings: [usize; 17],
     pub stay_notes: [usize; 17],
     pub checks: [usize; 22],
+    pub prizes: [usize; 19],
     /// Steps of the unnesting call by rule.
     pub rules: [usize; 9],
     /// Tried steps that fitted, by rule, and those that did not, at 0.
@@ -59,6 +62,8 @@ pub struct Counts {
     pub large: large::Met,
     /// Lists of steps made elsewhere, and their ends.
     pub elsewhere: elsewhere::Met,
+    /// Funds and prize fund tables.
+    pub funds: funds::Met,
     /// Accepted inputs whose need is below the one before request K12.
     pub smaller_needs: usize,
     /// Calls of the three that met 16 by the need before request K12 and do not now: those refused 15, and those answered.
@@ -68,20 +73,16 @@ pub struct Counts {
 impl Counts {
     /// The counts as lines of text.
     pub fn lines(&self) -> String {
-        let answers = [&self.reports[..], &self.unnestings, &self.stay_notes, &self.checks];
+        let answers = [&self.reports[..], &self.unnestings, &self.stay_notes, &self.checks, &self.prizes];
         let calls = answers.map(|counts| counts.iter().sum::<usize>());
-        let by_number = |name: &str, counts: &[usize]| {
-            let refused = (1..counts.len()).filter(|number| !(17..20).contains(number));
-            let numbers: String = refused.map(|number| format!(" {number}:{}", counts[number])).collect();
-            format!("{name}: answered {}, refused{numbers}\n", counts[0])
-        };
         let by_rule =
             |counts: &[usize; 9]| (1..=8).map(|rule| format!(" U{rule}:{}", counts[rule])).collect::<String>();
         format!("inputs {}, calls {}\n", self.inputs, calls.iter().sum::<usize>())
-            + &by_number("report", &self.reports)
-            + &by_number("unnest", &self.unnestings)
-            + &by_number("stay note", &self.stay_notes)
-            + &by_number("check steps", &self.checks)
+            + &by_number("report", &self.reports, &[])
+            + &by_number("unnest", &self.unnestings, &[])
+            + &by_number("stay note", &self.stay_notes, &[])
+            + &by_number("check steps", &self.checks, &[20, 21])
+            + &by_number("prizes", &self.prizes, &[17, 18])
             + &format!("notes with position 0 {}, with a later one {}, ", self.notes[0], self.notes[1])
             + &format!("where just one sequence has ended {}\n", self.ended)
             + &format!("sums that are numbers {}, blank {}, off scale {}\n", self.sums[0], self.sums[1], self.sums[2])
@@ -92,6 +93,7 @@ impl Counts {
             + &self.large.lines()
             + &self.need_line()
             + &self.elsewhere.lines()
+            + &self.funds.lines()
             + &format!("steps of the unnesting call{}\n", by_rule(&self.rules))
             + &format!("tried steps that fitted{}, that did not {}\n", by_rule(&self.tried), self.tried[0])
     }
@@ -132,6 +134,13 @@ impl Counts {
         let [accepted, short, bad, different] = [0, 16, 20, 21].map(|number| self.checks[number]);
         format!("lists of steps: accepted {accepted}, refused 16 {short}, 20 {bad}, 21 {different}\n")
             + &self.elsewhere.lines()
+    }
+
+    /// The counts of the prize call, as lines of text.
+    pub fn prize_lines(&self) -> String {
+        let [answered, scratch, fund, columns, room] = [0, 16, 17, 18, 15].map(|number| self.prizes[number]);
+        format!("prize fund tables {answered}, refused 16 {scratch}, 17 {fund}, 18 {columns}, 15 {room}\n")
+            + &self.funds.lines()
     }
 
     /// Counts a call (0 report, 1 unnest, 2 stay note) if it met 16 by the need before request K12 and does not now.
@@ -191,6 +200,13 @@ impl Counts {
     }
 }
 
+/// The answers of a call by their number, as a line of text: 1 to 16, and these more.
+fn by_number(name: &str, counts: &[usize], more: &[usize]) -> String {
+    let refused = (1..=16).chain(more.iter().copied());
+    let numbers: String = refused.map(|number| format!(" {number}:{}", counts[number])).collect();
+    format!("{name}: answered {}, refused{numbers}\n", counts[0])
+}
+
 /// The sides that the first node of an accepted plan compares by ≠, for a Select (0), a Pair (1) and a Group (2).
 fn unequal_sides(plan: &Plan, tables: &[Table]) -> Option<(usize, Vec<(i64, i64)>)> {
     let cells = |child: &Plan, id: u8| column_cells(child, id, tables);
@@ -248,6 +264,7 @@ fn drawn(random: &mut Random, faults: &[Fault]) -> (Vec<u8>, Vec<u8>) {
             (case.set, case.plan)
         }
         74..=87 => two_faults(random, faults),
+        88..=89 => bytes_of(&prize_day(random)),
         _ => mangled(random),
     }
 }
@@ -293,11 +310,13 @@ fn mangle(random: &mut Random, set: &mut Vec<u8>, plan: &mut Vec<u8>) {
 /// Holds all calls on one input against the second evaluator.
 pub fn hold(random: &mut Random, set: &[u8], plan: &[u8], counts: &mut Counts) -> Result<(), String> {
     counts.inputs += 1;
-    hold_report(random, set, plan, counts)?;
+    let due = due_of(set, plan, counts);
+    hold_rooms(random, set, plan, &due, counts)?;
     hold_tried_steps(random, set, plan, counts)?;
     hold_unnest(random, set, plan, counts)?;
     hold_stay_notes(random, set, plan, counts)?;
-    hold_check_steps(random, set, plan, counts)
+    hold_check_steps(random, set, plan, counts)?;
+    hold_prizes(random, set, plan, &due, counts)
 }
 
 /// One less than a room, or the same where there is none.
@@ -335,7 +354,13 @@ impl Due {
 
 /// The reporting call, and what an accepted plan has of the things that are counted.
 pub fn hold_report(random: &mut Random, set: &[u8], plan: &[u8], counts: &mut Counts) -> Result<(), String> {
-    let due = calls::read(set, plan).map(|(tables, tree)| {
+    let due = due_of(set, plan, counts);
+    hold_rooms(random, set, plan, &due, counts)
+}
+
+/// What is due of an input, or the number that refuses it. Counts what an accepted plan has of the things that are counted.
+fn due_of(set: &[u8], plan: &[u8], counts: &mut Counts) -> Result<Due, u8> {
+    calls::read(set, plan).map(|(tables, tree)| {
         let due = Due::of(&tree, &tables);
         counts.smaller_needs += usize::from(due.need < due.before);
         counts.count_sums(&tree, &due.report);
@@ -344,8 +369,7 @@ pub fn hold_report(random: &mut Random, set: &[u8], plan: &[u8], counts: &mut Co
         counts.between.count(&tree, &tables);
         counts.large.count(&tree, &tables);
         due
-    });
-    hold_rooms(random, set, plan, &due, counts)
+    })
 }
 
 /// The reporting call at the edge of both rooms, with one cell of scratch less, and at one pair of rooms around it; and with scratch that was
@@ -614,6 +638,95 @@ impl SentHolder<'_> {
             return Err(format!("{call}: the word is {word:#x} and not {right:#x}"));
         }
         Ok(())
+    }
+}
+
+// ---- the prize fund table
+
+/// The prize call: with a right fund, at the edge of both rooms, with one cell of output less and with one of scratch less; with a wrong fund in
+/// enough room; and with any fund in any rooms. What is due of the input, or the number that refuses it, is given.
+pub fn hold_prizes(
+    random: &mut Random,
+    set: &[u8],
+    plan: &[u8],
+    due: &Result<Due, u8>,
+    counts: &mut Counts,
+) -> Result<(), String> {
+    let (cells, need) = match due {
+        Ok(due) => (2 * due.report.rows, due.need),
+        Err(_) => (random.below(9), random.below(5000)),
+    };
+    let mut holder = FundHolder { set, plan, due, counts };
+    let right = fund(random, FundSort::Right);
+    let [wrong, any] = [&FUND_SORTS[1..], &FUND_SORTS].map(|sorts| {
+        let sort = random.pick(sorts);
+        fund(random, sort)
+    });
+    holder.hold(random, &right, cells, need)?;
+    if due.is_err() {
+        return holder.hold(random, &wrong, 0, 0);
+    }
+    holder.hold(random, &right, below(cells), need)?;
+    holder.hold(random, &right, cells, below(need))?;
+    holder.hold(random, &wrong, cells, need)?;
+    let (out, scratch) = match random.below(4) {
+        0 => (below(cells), need),
+        1 => (below(cells), below(need)),
+        2 => (random.below(cells + 1), random.below(need + 1)),
+        _ => (cells + random.between(1, 40), need + random.between(1, 400)),
+    };
+    holder.hold(random, &any, out, scratch)
+}
+
+/// What holds the prize call on an input, of which is given what is due.
+pub struct FundHolder<'a> {
+    pub set: &'a [u8],
+    pub plan: &'a [u8],
+    pub due: &'a Result<Due, u8>,
+    pub counts: &'a mut Counts,
+}
+
+impl FundHolder<'_> {
+    /// The call with a fund of every sort, and as many right ones, in rooms on both sides of each edge.
+    pub fn hold_every_sort(&mut self, random: &mut Random) -> Result<(), String> {
+        let (cells, need) = self.due.as_ref().map_or((4, 4_100), |due| (2 * due.report.rows, due.need));
+        for sort in FUND_SORTS.into_iter().flat_map(|sort| [sort, FundSort::Right]) {
+            let fund = fund(random, sort);
+            let more = (cells + random.between(1, 40), need + random.between(1, 400));
+            for (out, scratch) in [(cells, need), (below(cells), need), (0, need), more, (cells, below(need)), (0, 0)] {
+                self.hold(random, &fund, out, scratch)?;
+            }
+        }
+        Ok(())
+    }
+
+    /// The call with a fund, in these rooms.
+    pub fn hold(&mut self, random: &mut Random, fund: &Fund, out: usize, scratch: usize) -> Result<(), String> {
+        let shown = &fund.shares[..fund.shares.len().min(24)];
+        let call = format!(
+            "prizes of {} by {} shares {shown:?} with room {out} and scratch {scratch}",
+            fund.purse,
+            fund.shares.len()
+        );
+        let expected = match self.due {
+            Ok(due) => {
+                self.counts.funds.count(&due.report, due.need as u64, fund, out, scratch);
+                prizes_within(&due.report, due.need as u64, fund, out, scratch)
+            }
+            Err(number) => Err(*number),
+        };
+        let (word, cells) = archive::prize(random, self.set, self.plan, fund, out, scratch)
+            .map_err(|error| format!("{call}: {error}"))?;
+        self.counts.prizes[expected.as_ref().err().map_or(0, |&number| usize::from(number))] += 1;
+        let right = prize_word(&expected);
+        if word != right {
+            return Err(format!("{call}: the word is {word:#x} and not {right:#x}"));
+        }
+        let due = expected.map_or(vec![], |prizes| prizes.cells());
+        match cells.iter().zip(&due).position(|(cell, due)| cell != due) {
+            None => Ok(()),
+            Some(place) => Err(format!("{call}: cell {place} is {} and not {}", cells[place], due[place])),
+        }
     }
 }
 

@@ -4,6 +4,7 @@
 mod held {
     use second::archive;
     use second::build::*;
+    use second::by_hand::examples;
     use second::calls::{need_of, report, report_word, ROOMY};
     use second::cases::cases;
     use second::cells::{is_number, BLANK, LARGEST, OFF_SCALE};
@@ -11,15 +12,17 @@ mod held {
     use second::convert::Way;
     use second::edges::{club, edges};
     use second::elsewhere::{with_several_places, Scratch, Sent, Unnesting, CHANGES, ENDS, SCRATCHES, STARTS};
+    use second::funds::{many_rows, prize_day, shares, PURSES};
     use second::generate::Input;
     use second::held::{
-        hold, hold_check_steps, hold_conversions, hold_convert, hold_report, hold_seeds, hold_unnest, Conversions,
-        Counts, SentHolder,
+        hold, hold_check_steps, hold_conversions, hold_convert, hold_prizes, hold_report, hold_seeds, hold_unnest,
+        Conversions, Counts, Due, FundHolder, SentHolder,
     };
     use second::in_place::{over, plan_of, tables, Operator, Tree};
     use second::nodes::{write_plan, write_plan_in};
     use second::plan::Comparison::{Equal, Greater, Less};
     use second::plan::{Aggregate, Comparison, Plan, Test, ALWAYS, COMPARISONS};
+    use second::prizes::{prize_word, Fund, MOST_SHARES};
     use second::random::Random;
     use second::tables::{write_set, write_set_in, Table};
     use second::wide::narrowed;
@@ -60,6 +63,11 @@ mod held {
         assert!(met(&elsewhere.refused_21, 300) && met(&elsewhere.refused_20, 500), "{elsewhere:?}");
         assert!(met(&elsewhere.refused_16, 100) && met(&elsewhere.before_21, 300), "{elsewhere:?}");
         assert!(elsewhere.after_misfit >= 1_000, "{elsewhere:?}");
+        let (prizes, funds) = (&counts.prizes, &counts.funds);
+        assert!(met(prizes, 20) && [0, 15, 16, 17, 18].iter().all(|&number| prizes[number] >= 1_000), "{prizes:?}");
+        assert!([funds.across, funds.inside, funds.odd_pence, funds.players].iter().all(|&count| count >= 100));
+        assert!(met(&funds.left_over, 100) && met(&funds.club_lines, 500) && met(&funds.rows, 10), "{funds:?}");
+        assert!(met(&funds.refused_17, 300) && met(&funds.before, 100), "{funds:?}");
     }
 
     #[test]
@@ -311,6 +319,95 @@ mod held {
         // Accepted: our own list cut after none, one and two steps, each met thrice, the whole of it twice, and with as many cells as needed or
         // more.
         assert_eq!((counts.checks[0], counts.checks[16]), (3 * 3 + 2 + 51, 50));
+    }
+
+    #[test]
+    fn k4_examples_by_hand_are_answered_by_the_archive() {
+        let mut random = Random::new(25);
+        let all = examples();
+        for example in &all {
+            let right = (prize_word(&example.answer), example.answer.as_ref().map_or(vec![], |prizes| prizes.cells()));
+            let mut with = |out, scratch| {
+                let given = archive::prize(&mut random, &example.set, &example.plan, &example.fund, out, scratch);
+                given.unwrap_or_else(|error| panic!("{}: {error}", example.name))
+            };
+            assert_eq!(with(example.out_cells, example.scratch_cells), right, "{}", example.name);
+            if example.answer.is_ok() {
+                assert_eq!(with(example.out_cells + 7, example.scratch_cells + 70), right, "{}", example.name);
+            }
+        }
+        println!("prize calls by hand: {}", all.len());
+    }
+
+    /// How many inputs made for the prize fund table are held with every sort of fund, and how many with many rows.
+    const PRIZE_DAYS: usize = 200;
+    const LARGE_PRIZE_DAYS: usize = 60;
+
+    #[test]
+    fn k4_prizes_of_every_sort_of_fund_are_those_of_the_second_evaluator() {
+        let mut counts = Counts::default();
+        let mut random = Random::new(26);
+        for number in 0..PRIZE_DAYS + LARGE_PRIZE_DAYS {
+            let many = number >= PRIZE_DAYS;
+            let input = if many { many_rows(&mut random) } else { prize_day(&mut random) };
+            let (set, plan) = (input.set_bytes(), input.plan_bytes());
+            let due = Ok(Due::of(&input.plan, &input.tables));
+            let held = if many {
+                hold_prizes(&mut random, &set, &plan, &due, &mut counts)
+            } else {
+                FundHolder { set: &set, plan: &plan, due: &due, counts: &mut counts }.hold_every_sort(&mut random)
+            };
+            held.unwrap_or_else(|difference| panic!("input {number}, {:?}: {difference}", input.plan));
+        }
+        print!("every sort of fund: {}", counts.prize_lines());
+        assert!([0, 15, 16, 17, 18].iter().all(|&number| counts.prizes[number] > 500), "{:?}", counts.prizes);
+        assert!(counts.funds.before.iter().all(|&count| count > 100), "{:?}", counts.funds);
+        assert!(counts.funds.refused_17.iter().all(|&count| count > 500), "{:?}", counts.funds);
+    }
+
+    #[test]
+    fn k4_prizes_of_short_lists_of_scores_are_those_of_the_second_evaluator() {
+        let mut counts = Counts::default();
+        let mut random = Random::new(27);
+        // Places of 4, 3, 2, 1; of 1, 1, 1 and 0, all but one of them left over; and of 1, 0 and 8, one left over to a share of 0.
+        let funds: [(u64, &[u32]); 3] = [(10, &[4000, 3000, 2000, 1000]), (3, &[2500; 4]), (9, &[0, 500, 9500])];
+        let funds = funds.map(|(purse, shares)| Fund { purse, shares: shares.to_vec() });
+        let lists = short_lists(&[BLANK, OFF_SCALE, 70, 71], 6);
+        for scores in &lists {
+            let rows = scores.iter().zip(1..).map(|(&score, player)| vec![player, score]).collect();
+            let input = Input { tables: vec![Table { columns: 2, rows }], plan: scan(0, 0) };
+            let due = Ok(Due::of(&input.plan, &input.tables));
+            let (set, plan) = (input.set_bytes(), input.plan_bytes());
+            let mut holder = FundHolder { set: &set, plan: &plan, due: &due, counts: &mut counts };
+            for fund in &funds {
+                let held = holder.hold(&mut random, fund, 2 * scores.len(), 4_096 + 2 * scores.len());
+                held.unwrap_or_else(|difference| panic!("{scores:?}: {difference}"));
+            }
+        }
+        print!("all lists of up to six scores: {}", counts.funds.table_lines());
+        assert_eq!(counts.prizes[0], 3 * (4usize.pow(7) - 1) / 3);
+    }
+
+    #[test]
+    fn k4_purses_and_numbers_of_shares_are_taken_as_by_the_second_evaluator() {
+        let mut counts = Counts::default();
+        let mut random = Random::new(28);
+        // A tie of three, no score twice, a tie of two, and others alone.
+        let scores = [70, 70, 70, BLANK, OFF_SCALE, 71, 71, 72, 70, 73];
+        for height in [0, 1, 3, 10, 21] {
+            let rows = (0..height).map(|row| vec![row as i64, scores[row % 10]]).collect();
+            let input = Input { tables: vec![Table { columns: 2, rows }], plan: scan(0, 0) };
+            let due = Ok(Due::of(&input.plan, &input.tables));
+            let (set, plan) = (input.set_bytes(), input.plan_bytes());
+            let mut holder = FundHolder { set: &set, plan: &plan, due: &due, counts: &mut counts };
+            for (count, purse) in (1..=MOST_SHARES).flat_map(|count| PURSES.map(|purse| (count, purse))) {
+                let fund = Fund { purse, shares: shares(&mut random, count) };
+                let held = holder.hold(&mut random, &fund, 2 * height, 4_096 + 2 * height);
+                held.unwrap_or_else(|difference| panic!("{height} rows: {difference}"));
+            }
+        }
+        print!("every purse by every number of shares: {}", counts.funds.table_lines());
+        assert_eq!(counts.prizes[0], 5 * MOST_SHARES * PURSES.len());
     }
 
     /// The set of a table of these rows of two cells, each with its number in a third column, which tells equal rows apart.

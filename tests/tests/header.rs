@@ -3,11 +3,12 @@
 
 use second::build::*;
 use second::calls::{check_steps, report, stay_note, unnest, write_steps, ROOMY};
-use second::cells::LARGEST;
+use second::cells::{BLANK, LARGEST, OFF_SCALE};
 use second::convert::{convert, Converted, Way};
 use second::edges::club;
 use second::generate::Input;
 use second::plan::Plan;
+use second::prizes::{prize, Fund};
 use std::path::{Path, PathBuf};
 use std::process::Command;
 use std::{env, fs};
@@ -64,9 +65,23 @@ fn expected(set: &[u8], plan: &[u8]) -> String {
             Err(number) => format!("note at {place}: none, refusal {number}\n"),
         };
     }
+    for shares in [&[5000, 3000, 2000][..], &[5000, 3000]] {
+        text += &prizes(set, plan, &Fund { purse: 1_001, shares: shares.to_vec() });
+    }
     let down = convert(Way::Down, set, plan, ROOMY, ROOMY);
     let (old_set, old_plan) = down.clone().map_or((vec![], vec![]), |pair| (pair.set, pair.plan));
     text + &sizes("down", down) + &sizes("up", convert(Way::Up, &old_set, &old_plan, ROOMY, ROOMY))
+}
+
+/// What the C program has to print of a prize call.
+fn prizes(set: &[u8], plan: &[u8], fund: &Fund) -> String {
+    match prize(set, plan, fund, ROOMY, ROOMY) {
+        Ok(prizes) => {
+            let cells: String = prizes.cells().iter().map(|cell| format!(" {cell}")).collect();
+            format!("prizes refusal 0 rows {} club line {}:{cells}\n", prizes.rows.len(), prizes.club_line)
+        }
+        Err(number) => format!("prizes refusal {number} rows 0 club line 0:\n"),
+    }
 }
 
 /// What the C program has to print of a conversion.
@@ -82,7 +97,8 @@ fn sizes(way: &str, answer: Result<Converted, u8>) -> String {
 fn a_c_program_gets_the_answers() {
     let program = written("club");
     run(compiler().arg("-std=c99").arg(file("tests/c/club.c")).arg(env!("CLUB_ARCHIVE_COPY")).arg("-o").arg(&program));
-    // The listing; a Semi with a note, whose sequences differ from position 2 on; a refusal; numbers that do not fit version 1.
+    // The listing; a Semi with a note, whose sequences differ from position 2 on; a refusal; numbers that do not fit version 1; players and
+    // scores, with a tie across the last share, with a club line, and so many rows that two bytes tell them.
     let keys = [one_column(&[1, 2, 4]), one_column(&[1, 2, 3, 5])];
     let noted = semi(0, 1, second::plan::ALWAYS, distinct(&[0], scan(0, 0)), scan(1, 1));
     let inputs = [
@@ -91,6 +107,9 @@ fn a_c_program_gets_the_answers() {
         Input { tables: vec![], plan: select(NEVER, scan(0, 0)) },
         Input { tables: vec![], plan: Plan::Unit },
         Input { tables: vec![one_column(&[2_147_483_647, 5, -LARGEST])], plan: scan(0, 0) },
+        Input { tables: vec![table(&[&[7, 70], &[4, 71], &[9, 71], &[2, 71]])], plan: scan(0, 0) },
+        Input { tables: vec![table(&[&[OFF_SCALE, BLANK], &[BLANK, -3]])], plan: scan(0, 0) },
+        Input { tables: vec![sized(2, 300)], plan: sort(true, &[1], scan(0, 0)) },
     ];
     let (set_file, plan_file) = (written("set"), written("plan"));
     for input in inputs {

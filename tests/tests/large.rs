@@ -6,7 +6,7 @@ use second::cells::{BLANK, LARGEST, OFF_SCALE};
 use second::check::{check_tree, columns};
 use second::evaluate::first_occurrences;
 use second::generate::Input;
-use second::held::{hold_check_steps, hold_rooms, hold_stay_notes, hold_unnest, Counts, Due};
+use second::held::{hold_check_steps, hold_prizes, hold_rooms, hold_stay_notes, hold_unnest, Counts, Due};
 use second::keys::{
     alike_above, alike_below, anywhere, arrange, folded_alike, in_bucket_of, rows_in_one_bucket, Order, AROUND_POWERS,
     ORDERS,
@@ -67,7 +67,8 @@ fn random_plans_over_many_rows_are_reported_as_by_the_second_evaluator() {
         met.count(&input.plan, &input.tables);
         let due = Due::of(&input.plan, &input.tables);
         rows += due.report.rows;
-        let mut held = hold_rooms(&mut random, &set, &plan, &Ok(due), &mut counts);
+        let due = Ok(due);
+        let mut held = hold_rooms(&mut random, &set, &plan, &due, &mut counts);
         if work(&input.plan, &input.tables) < WORK / 10 && random.chance(30) {
             unnested += 1;
             held = held
@@ -75,11 +76,15 @@ fn random_plans_over_many_rows_are_reported_as_by_the_second_evaluator() {
                 .and_then(|()| hold_stay_notes(&mut random, &set, &plan, &mut counts))
                 .and_then(|()| hold_check_steps(&mut random, &set, &plan, &mut counts));
         }
+        if random.chance(30) {
+            held = held.and_then(|()| hold_prizes(&mut random, &set, &plan, &due, &mut counts));
+        }
         held.unwrap_or_else(|difference| panic!("seed {seed}: {difference}"));
     }
     println!("random plans over many rows {INPUTS}, rows reported {rows}, plans unnested too {unnested}");
     print!("{}", met.lines());
     println!("steps of those {:?}, notes {:?}", &counts.rules[1..], counts.notes);
+    print!("random plans over many rows: {}", counts.prize_lines());
     let many: Vec<usize> = met.looked_up.iter().map(|sizes| sizes[2]).collect();
     assert!(many.iter().chain(&met.keys).chain(&met.sorts).chain(&met.inner).all(|&count| count >= 50), "{met:?}");
 }

@@ -1,11 +1,11 @@
 //! The stack that the archive's calls take for the deepest plans, and the one that the listing program needs. It prints the figures.
 #![cfg(all(archive, target_os = "linux"))]
 
-use second::archive::{check_steps_in, report_in, stay_note_in, unnest_in};
+use second::archive::{check_steps_in, prize_in, report_in, stay_note_in, unnest_in};
 use second::build::*;
-use second::check::check_tree;
+use second::check::{check_tree, columns};
 use second::generate::Input;
-use second::held::{hold_check_steps, hold_rooms, hold_unnest, Counts, Due};
+use second::held::{hold_check_steps, hold_prizes, hold_rooms, hold_unnest, Counts, Due};
 use second::listings::Run;
 use second::nodes::LARGEST_PLAN;
 use second::plan::Comparison::{Equal, Less};
@@ -169,39 +169,47 @@ fn below_pair(depth: u8) -> Plan {
     pair(Aggregate::Count, 250, keys(200, Equal, key), distinct(&[200], scan(0, 200)), rows)
 }
 
-/// The bytes of stack that the four calls take for a plan. The checking call gets the list and the plan that the unnesting call gives.
-fn taken(stack: &mut Stack, input: &Input) -> [usize; 4] {
+/// The bytes of stack that the five calls take for a plan. The checking call gets the list and the plan that the unnesting call gives.
+fn taken(stack: &mut Stack, input: &Input) -> [usize; 5] {
     assert_eq!(check_tree(&input.plan, &input.tables), Ok(()));
     let (set, plan) = (input.set_bytes(), input.plan_bytes());
     // More than any of the plans here needs, and any that they are unnested into.
     let mut scratch = vec![0; 1 << 20];
     let (mut out, mut out_plan, mut out_steps) = (vec![0; 1 << 17], vec![0; LARGEST_PLAN], vec![0; 384]);
-    let mut words = [0; 4];
+    let mut words = [0; 5];
     let report = stack.taken_by(&mut || words[0] = report_in(&set, &plan, &mut out, &mut scratch));
     let unnest = stack.taken_by(&mut || words[1] = unnest_in(&set, &plan, &mut out_plan, &mut out_steps, &mut scratch));
     let note = stack.taken_by(&mut || words[2] = stay_note_in(&set, &plan, 0, &mut scratch));
     let (steps, theirs) = (&out_steps[..2 * (words[1] >> 8 & 0xffff) as usize], &out_plan[..(words[1] >> 24) as usize]);
     let check = stack.taken_by(&mut || words[3] = check_steps_in(&set, &plan, steps, theirs, &mut scratch));
-    assert!(words.iter().all(|word| word & 0xff == 0), "{words:?}");
-    [report, unnest, note, check]
+    let mut prizes = || words[4] = prize_in(&set, &plan, 99_999_999, &[500; 20], &mut out, &mut scratch);
+    let prize = stack.taken_by(&mut prizes);
+    // A plan of one column is refused 18 by the prize call.
+    let few = columns(&input.plan, &input.tables).len() < 2;
+    assert_eq!(words.map(|word| word & 0xff), [0, 0, 0, 0, if few { 18 } else { 0 }]);
+    [report, unnest, note, check, prize]
+}
+
+/// The KiB of stack of the five calls and the bytes of a node, as text.
+fn figures([report, unnest, note, check, prize]: [usize; 5], by_node: usize) -> String {
+    format!("report {report} KiB, {by_node} bytes a node; ")
+        + &format!("unnest {unnest}, stay note {note}, check steps {check}, prizes {prize} KiB")
 }
 
 #[test]
 fn the_deepest_plans_take_little_stack() {
     let mut stack = Stack::new(STACK);
-    let (mut most, mut most_by_node) = ([0; 4], 0);
+    let (mut most, mut most_by_node) = ([0; 5], 0);
     for (name, plan, deepest) in families() {
         let mut at = |height, depth| taken(&mut stack, &Input { tables: tables(height), plan: plan(depth) });
         let (few, many, less_deep) = (at(64, deepest), at(1000, deepest), at(64, deepest / 2));
         let by_node = few[0].saturating_sub(less_deep[0]) / usize::from(deepest - deepest / 2);
-        let largest = [0, 1, 2, 3].map(|call| few[call].max(many[call]).div_ceil(1024));
-        let [report, unnest, note, check] = largest;
-        println!("stack of {deepest} deep {name}: report {report} KiB, {by_node} bytes a node; unnest {unnest}, stay note {note}, check steps {check} KiB");
+        let largest = [0, 1, 2, 3, 4].map(|call| few[call].max(many[call]).div_ceil(1024));
+        println!("stack of {deepest} deep {name}: {}", figures(largest, by_node));
         most.iter_mut().zip(largest).for_each(|(most, taken)| *most = taken.max(*most));
         most_by_node = by_node.max(most_by_node);
     }
-    let [report, unnest, note, check] = most;
-    println!("most stack: report {report} KiB, {most_by_node} bytes a node; unnest {unnest}, stay note {note}, check steps {check} KiB");
+    println!("most stack: {}", figures(most, most_by_node));
     assert!(most.iter().all(|&taken| taken <= LIMIT), "{most:?}");
     assert!(most_by_node <= NODE_LIMIT, "{most_by_node}");
 }
@@ -218,10 +226,12 @@ fn the_deepest_plans_are_answered_as_by_the_second_evaluator() {
         hold_rooms(&mut random, &set, &plan, &due, &mut counts)
             .and_then(|()| hold_unnest(&mut random, &set, &plan, &mut counts))
             .and_then(|()| hold_check_steps(&mut random, &set, &plan, &mut counts))
+            .and_then(|()| hold_prizes(&mut random, &set, &plan, &due, &mut counts))
             .unwrap_or_else(|difference| panic!("{name}: {difference}"));
     }
     println!("deepest plans: reports {}, steps {:?}", counts.reports[0], &counts.rules[1..]);
     print!("deepest plans: {}", counts.elsewhere_lines());
+    print!("deepest plans: {}", counts.prize_lines());
 }
 
 /// Whether the listing program prints a run's text in its folder with so many KiB of stack.
