@@ -4,6 +4,7 @@ use crate::build::*;
 use crate::cases::one_of_each_refusal;
 use crate::cells::{BLANK, LARGEST, OFF_SCALE};
 use crate::nodes::write_plan;
+use crate::plan::Comparison::Less;
 use crate::plan::Plan;
 use crate::prizes::{Fund, Prizes, LARGEST_PURSE};
 use crate::tables::{write_set, Table};
@@ -20,9 +21,14 @@ pub struct Example {
     pub answer: Result<Prizes, u8>,
 }
 
+/// Three shares and four that sum to 10,000.
+const THREE: [u32; 3] = [5000, 3000, 2000];
+const FOUR: [u32; 4] = [4000, 3000, 2000, 1000];
+
 /// All of them: tables first, then refusals.
 pub fn examples() -> Vec<Example> {
-    [ties(), gaps(), places(), ends(), other_plans(), refused(), in_order(), after_the_input()].concat()
+    [ties(), no_ties(), gaps(), places(), purses(), cells(), other_plans(), refused(), in_order(), after_the_input()]
+        .concat()
 }
 
 /// A table of players and scores.
@@ -45,20 +51,19 @@ fn paid(name: &'static str, rows: &[[i64; 2]], purse: u64, shares: &[u32], pence
     }
 }
 
-/// Rows that pool their pence, and rows that do not.
+/// Rows that pool their pence.
 fn ties() -> Vec<Example> {
-    let halves = [5000, 3000, 2000];
     vec![
         // 500.5, 300.3 and 200.2 rounded down leave a penny, which goes to the first place: 501, 300, 200. Players 4 and 9 pool 300 and 200. The
         // fourth place has no share.
-        paid("a tie", &[[7, 70], [4, 71], [9, 71], [2, 73]], 1_001, &halves, &[501, 250, 250, 0], 0),
+        paid("a tie", &[[7, 70], [4, 71], [9, 71], [2, 73]], 1_001, &THREE, &[501, 250, 250, 0], 0),
         // 402, 301.5, 201 and 100.5 leave a penny: 403, 301, 201, 100. Player 4 has no score, so 301 are the club's. The three after pool 201,
         // 100 and 0, which are 301: 100 each, and the odd penny to the first of them.
         paid(
             "a blank, and a tie across the last share",
             &[[7, 68], [4, BLANK], [9, 70], [2, 70], [5, 70]],
             1_005,
-            &[4000, 3000, 2000, 1000],
+            &FOUR,
             &[403, 0, 101, 100, 100],
             301,
         ),
@@ -72,22 +77,9 @@ fn ties() -> Vec<Example> {
             0,
         ),
         // 50, 30 and 20: all 100 for six, 16 each, and the four odd pence to the first four.
-        paid(
-            "all equal",
-            &[[1, 8], [2, 8], [3, 8], [4, 8], [5, 8], [6, 8]],
-            100,
-            &halves,
-            &[17, 17, 17, 17, 16, 16],
-            0,
-        ),
-        // 300, 180 and 120, each alone: the two scores of 70 are not adjacent.
-        paid("equal scores that are not adjacent", &[[1, 70], [2, 71], [3, 70]], 600, &halves, &[300, 180, 120], 0),
-        // The same amounts: the first row is the best, whatever its score is.
-        paid("scores in no order", &[[1, 90], [2, 70], [3, 80]], 600, &halves, &[300, 180, 120], 0),
+        paid("all equal", &[[1, 8], [2, 8], [3, 8], [4, 8], [5, 8], [6, 8]], 100, &THREE, &[17, 17, 17, 17, 16, 16], 0),
         // Two pools beside each other: 40 and 30 are 70, and 20 and 10 are 30.
-        paid("two ties", &[[1, 5], [2, 5], [3, 6], [4, 6]], 100, &[4000, 3000, 2000, 1000], &[35, 35, 15, 15], 0),
-        // The players are equal, and the scores are not. They do not pool: 300, 180, 120.
-        paid("a player three times", &[[1, 70], [1, 71], [1, 72]], 600, &halves, &[300, 180, 120], 0),
+        paid("two ties", &[[1, 5], [2, 5], [3, 6], [4, 6]], 100, &FOUR, &[35, 35, 15, 15], 0),
         // Past the last share there is nothing to pool.
         paid("a tie past the last share", &[[1, 70], [2, 71], [3, 71]], 9, &[10_000], &[9, 0, 0], 0),
         // 19 places of 1 penny and one of 0, as 0.95 are rounded down. The last two pool 1 penny.
@@ -100,17 +92,28 @@ fn last_two_equal() -> Vec<[i64; 2]> {
     (1..=20).map(|row| [row, row.min(19)]).collect()
 }
 
+/// Rows that do not pool.
+fn no_ties() -> Vec<Example> {
+    vec![
+        // 300, 180 and 120, each alone: the two scores of 70 are not adjacent.
+        paid("equal scores that are not adjacent", &[[1, 70], [2, 71], [3, 70]], 600, &THREE, &[300, 180, 120], 0),
+        // The same amounts: the first row is the best, whatever its score is.
+        paid("scores in no order", &[[1, 90], [2, 70], [3, 80]], 600, &THREE, &[300, 180, 120], 0),
+        // The players are equal, and the scores are not. They do not pool: 300, 180, 120.
+        paid("a player three times", &[[1, 70], [1, 71], [1, 72]], 600, &THREE, &[300, 180, 120], 0),
+    ]
+}
+
 /// Blank and off-scale scores.
 fn gaps() -> Vec<Example> {
-    let shares = [4000, 3000, 2000, 1000];
     let mut all = Vec::new();
     for gap in [BLANK, OFF_SCALE] {
         // 400, 300, 200, 100: the first two pool 700, the third place's 200 are the club's, the last two pool 100 and 0.
         let inside = [[1, 70], [2, 70], [3, gap], [4, 70], [5, 70]];
-        all.push(paid("no score inside a tie", &inside, 1_000, &shares, &[350, 350, 0, 50, 50], 200));
+        all.push(paid("no score inside a tie", &inside, 1_000, &FOUR, &[350, 350, 0, 50, 50], 200));
         // 400 and 300 are the club's; the two scores after them pool 200 and 100. Nobody moves up.
         let first = [[1, gap], [2, gap], [3, 70], [4, 70], [5, gap]];
-        all.push(paid("no score twice in front", &first, 1_000, &shares, &[0, 0, 150, 150, 0], 700));
+        all.push(paid("no score twice in front", &first, 1_000, &FOUR, &[0, 0, 150, 150, 0], 700));
         // The odd penny: 101 for two.
         let last = [[1, 70], [2, 70], [3, gap], [4, gap]];
         all.push(paid("no score twice at the end", &last, 101, &[10_000], &[51, 50, 0, 0], 0));
@@ -120,7 +123,7 @@ fn gaps() -> Vec<Example> {
     all.push(paid("nobody has a score", &none, 100, &[3333, 3333, 3334], &[0; 5], 100));
     // A blank beside an off-scale score: 400 and 300 are the club's, 200 are paid, and the fourth place is past the last row.
     let both = [[1, OFF_SCALE], [2, BLANK], [3, -70]];
-    all.push(paid("both in front", &both, 1_000, &shares, &[0, 0, 200], 800));
+    all.push(paid("both in front", &both, 1_000, &FOUR, &[0, 0, 200], 800));
     all
 }
 
@@ -132,7 +135,7 @@ fn places() -> Vec<Example> {
         // As the two are equal they pool 80, and still not the places past the last row.
         paid("more shares than rows that tie", &[[3, 80], [8, 80]], 100, &[5000, 3000, 1500, 500], &[40, 40], 20),
         paid("more rows than shares", &[[1, 60], [2, 61], [3, 62], [4, 63]], 100, &[7000, 3000], &[70, 30, 0, 0], 0),
-        paid("no rows", &[], 1_001, &[5000, 3000, 2000], &[], 1_001),
+        paid("no rows", &[], 1_001, &THREE, &[], 1_001),
         paid("no rows and no purse", &[], 0, &[10_000], &[], 0),
         // 0.833 five times and 0.835 leave all five pence: one each to the first five places, of which rows reach two.
         paid("left over where no row is", &[[1, 70], [2, 71]], 5, &[1666, 1666, 1666, 1666, 1666, 1670], &[1, 1], 3),
@@ -142,7 +145,7 @@ fn places() -> Vec<Example> {
         paid("a first share of 0", &[[1, 70], [2, 71]], 1, &[0, 10_000], &[0, 1], 0),
         // 3 for the last place. 0, 0, 0, 3 leave nothing, and rows do not reach it.
         paid("the last share alone", &[[1, 70], [2, 71], [3, 72]], 3, &[0, 0, 0, 10_000], &[0, 0, 0], 3),
-        // 1.6667 and twice 1.66665 leave two: 2, 2, 1.
+        // 1.667 and twice 1.6665 leave two: 2, 2, 1.
         paid(
             "rounded down and not to the nearest",
             &[[1, 70], [2, 71], [3, 72]],
@@ -156,12 +159,12 @@ fn places() -> Vec<Example> {
     ]
 }
 
-/// The ends of what purses, shares and cells may be.
-fn ends() -> Vec<Example> {
+/// The ends of what purses and shares may be.
+fn purses() -> Vec<Example> {
     let twentieth = LARGEST_PURSE / 20;
     let twenty: Vec<[i64; 2]> = (1..=20).map(|row| [row, 100 + row]).collect();
     vec![
-        paid("no purse", &[[1, 70], [2, 70], [3, BLANK]], 0, &[5000, 3000, 2000], &[0, 0, 0], 0),
+        paid("no purse", &[[1, 70], [2, 70], [3, BLANK]], 0, &THREE, &[0, 0, 0], 0),
         paid("a penny", &[[1, 70], [2, 71]], 1, &[5000, 5000], &[1, 0], 0),
         paid("a penny for two", &[[1, 70], [2, 70]], 1, &[5000, 5000], &[1, 0], 0),
         paid("the largest purse for one", &[[5, -9]], LARGEST_PURSE, &[10_000], &[LARGEST_PURSE], 0),
@@ -169,6 +172,13 @@ fn ends() -> Vec<Example> {
         paid("20 shares", &twenty, LARGEST_PURSE, &[500; 20], &[twentieth; 20], 0),
         // 9,999.9999 and 99,989,999.0001 leave a penny.
         paid("one hundredth of a per cent", &[[1, 1], [2, 2]], 99_999_999, &[1, 9_999], &[10_000, 99_989_999], 0),
+        thousands_of_equal_rows(),
+    ]
+}
+
+/// Scores and players of every sort.
+fn cells() -> Vec<Example> {
+    vec![
         // 5.5 twice: 6 and 5, of 11 pooled again 6 and 5.
         paid(
             "scores below zero, players that are no numbers",
@@ -184,13 +194,20 @@ fn ends() -> Vec<Example> {
             "scores at the ends of the range",
             &[[1, -LARGEST], [2, -LARGEST], [3, LARGEST], [4, LARGEST], [5, OFF_SCALE]],
             100,
-            &[4000, 3000, 2000, 1000],
+            &FOUR,
             &[35, 35, 15, 15, 0],
             0,
         ),
-        // Alike in their lower 32 bits, and not equal.
+        // Alike in their lower 32 bits, or in all but the lowest, and not equal.
         paid("scores of 64 bits", &[[1, 7], [2, 7 + (1 << 32)]], 10, &[8000, 2000], &[8, 2], 0),
-        thousands_of_equal_rows(),
+        paid(
+            "scores one apart",
+            &[[1, 1 - LARGEST], [2, -LARGEST], [3, LARGEST - 1], [4, LARGEST]],
+            100,
+            &FOUR,
+            &[40, 30, 20, 10],
+            0,
+        ),
     ]
 }
 
@@ -212,13 +229,13 @@ fn thousands_of_equal_rows() -> Example {
 
 /// The table of a tie, read in other ways than by a Scan of two columns.
 fn other_plans() -> Vec<Example> {
-    let (downward, fund) = ([[1, 30], [2, 36], [3, 36], [4, 31]], [5000, 3000, 2000]);
+    let downward = [[1, 30], [2, 36], [3, 36], [4, 31]];
     // Equal rows of a downward list come in reverse order: players 3, 2, 4 and 1. The first two pool 501 and 300: 401, and 400.
     let sorted = Example {
         plan: write_plan(&sort(true, &[1], scan(0, 0))),
         scratch_cells: 4_096 + 8 + 8,
         answer: Ok(Prizes { rows: vec![(3, 401), (2, 400), (4, 200), (1, 0)], club_line: 0 }),
-        ..paid("a downward list", &downward, 1_001, &fund, &[0; 4], 0)
+        ..paid("a downward list", &downward, 1_001, &THREE, &[0; 4], 0)
     };
     // Other columns are passed over: those after the score, and in the table also those in front.
     let cards = table(&[&[9, 70, 7, 1], &[8, 71, 4, 2], &[7, 71, 9, 3], &[6, 73, 2, 3]]);
@@ -227,11 +244,20 @@ fn other_plans() -> Vec<Example> {
         plan: write_plan(&plan),
         scratch_cells: 4_096 + cells,
         answer: Ok(Prizes { rows: players.into_iter().zip([501, 250, 250, 0]).collect(), club_line: 0 }),
-        ..paid(name, &[[0, 0]; 4], 1_001, &fund, &[0; 4], 0)
+        ..paid(name, &[[0, 0]; 4], 1_001, &THREE, &[0; 4], 0)
     };
-    // A Project counts one row of its columns in the need.
+    // Three rows are left, and only for these there has to be room. A Select and a Project count one row of their columns in the need.
+    let tie = [[7, 70], [4, 71], [9, 71], [2, 73]];
+    let selected = Example {
+        plan: write_plan(&select(number_test(1, Less, 72), scan(0, 0))),
+        out_cells: 6,
+        scratch_cells: 4_096 + 2 + 8,
+        answer: Ok(Prizes { rows: vec![(7, 501), (4, 250), (9, 250)], club_line: 0 }),
+        ..paid("rows that a Select leaves", &tie, 1_001, &THREE, &[0; 4], 0)
+    };
     vec![
         sorted,
+        selected,
         wide("columns after the score", scan(0, 0), 16, [9, 8, 7, 6]),
         wide("a Project", project(&[2, 1], scan(0, 0)), 2 + 16, [7, 4, 9, 2]),
         wide("a Project of more", project(&[2, 1, 0, 3], scan(0, 0)), 4 + 16, [7, 4, 9, 2]),
@@ -282,6 +308,7 @@ fn refused() -> Vec<Example> {
         wrong_fund("20 of the largest shares", 100, &[most; 20]),
         few_columns("one column", project(&[0], scan(0, 0))),
         few_columns("one column and no rows", select(NEVER, project(&[1], scan(0, 0)))),
+        Example { set: write_set(&[sized(1, 0)]), ..few_columns("a table of one column and no rows", scan(0, 0)) },
         few_columns("no columns", Plan::Unit),
         few_columns("no columns and no rows", select(NEVER, Plan::Unit)),
         short("a cell short", 3),
@@ -295,6 +322,7 @@ fn refused() -> Vec<Example> {
 /// Every two of 16, 17, 18 and 15, in which the first one tested decides; and all four.
 fn in_order() -> Vec<Example> {
     let (one_column, with_rows) = (write_plan(&project(&[0], scan(0, 0))), two_rows());
+    let no_rows = write_set(&[sized(1, 0)]);
     let wrong = Fund { purse: 100, shares: vec![6000, 4001] };
     let with = |name, [number, other]: [u8; 2], more: &[u8]| {
         let faults = [&[number, other], more].concat();
@@ -320,6 +348,7 @@ fn in_order() -> Vec<Example> {
         with("18 before 15", [18, 15], &[]),
         with("16 before all", [16, 17], &[18, 15]),
         with("17 before the rest", [17, 18], &[15]),
+        Example { set: no_rows, plan: with_rows.plan.clone(), ..with("17 before 18 with no rows", [17, 18], &[]) },
     ]
 }
 

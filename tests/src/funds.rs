@@ -236,7 +236,7 @@ fn scores(random: &mut Random, height: usize) -> Vec<i64> {
         Scores::OffScale => vec![OFF_SCALE],
         Scores::NoNumbers => vec![BLANK, OFF_SCALE],
         Scores::Alike => vec![7, 7 + (1 << 32), 7 - (1 << 32), 7 + (1 << 51)],
-        Scores::Ends => vec![-LARGEST, LARGEST, 0, -1, BLANK, OFF_SCALE],
+        Scores::Ends => vec![-LARGEST, 1 - LARGEST, LARGEST - 1, LARGEST, 0, -1, BLANK, OFF_SCALE],
     };
     (0..height).map(|_| random.pick(&from)).collect()
 }
@@ -477,7 +477,7 @@ impl Met {
                 let pence: u64 = pool.iter().map(|row| row.pence).sum();
                 self.ties += 1;
                 self.across += usize::from(start < shares && end > shares);
-                self.odd_pence += usize::from(pence % pool.len() as u64 != 0);
+                self.odd_pence += usize::from(pence % pool.len() as u64 > 0);
             }
             start = end;
         }

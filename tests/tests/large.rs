@@ -76,7 +76,7 @@ fn random_plans_over_many_rows_are_reported_as_by_the_second_evaluator() {
                 .and_then(|()| hold_stay_notes(&mut random, &set, &plan, &mut counts))
                 .and_then(|()| hold_check_steps(&mut random, &set, &plan, &mut counts));
         }
-        if random.chance(30) {
+        if random.chance(10) {
             held = held.and_then(|()| hold_prizes(&mut random, &set, &plan, &due, &mut counts));
         }
         held.unwrap_or_else(|difference| panic!("seed {seed}: {difference}"));

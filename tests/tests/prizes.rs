@@ -199,7 +199,7 @@ fn payments_and_club_line_add_up_to_the_purse() {
         }
     }
     print!("prize fund tables {answered}; {}", met.table_lines());
-    assert!(answered > 20_000, "{answered}");
+    assert!(answered > 15_000, "{answered}");
     assert!([met.across, met.inside, met.odd_pence, met.players].iter().all(|&count| count > 1_000), "{met:?}");
     assert!(met.left_over.iter().chain(&met.club_lines).all(|&count| count > 1_000), "{met:?}");
 }
