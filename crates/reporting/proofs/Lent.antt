@@ -9,7 +9,7 @@ use borrow.Rule.Slice.PartMut.{putMid, postOf}
 use Rattle.reporting.specs.Rows.{chunk}
 use Rattle.reporting.proofs.Chunks.{chunk-same}
 
-pub tail-part : (b : ℕ) (xs : List ℕ) → take (length xs - b) (drop b xs) ≡ drop b xs
+pub tail-part : {A : Type 0} (b : ℕ) (xs : List A) → take (length xs - b) (drop b xs) ≡ drop b xs
 tail-part b xs = take-all (length xs - b) (drop b xs) (rw length-drop (omega arith))
 
 pub drop-from : (a b : ℕ) (xs : List ℕ) → a ≤ b → drop (b - a) (drop a xs) ≡ drop b xs
@@ -19,11 +19,11 @@ pub drop-beyond : (a b : ℕ) (xs ys : List ℕ) → a ≤ b → drop a xs ≡ d
 drop-beyond a b xs ys h e = sym (drop-from a b xs h) ∙ ap (drop (b - a)) e ∙ drop-from a b ys h
 
 -- a part to the end that was lent and is back
-pub lent-back : (k : ℕ) (cells ys : List ℕ) → putMid k (length cells - k) cells ys ≡ take k cells ++ ys
-lent-back k cells ys =
+pub lent-back : {A : Type 0} (k : ℕ) (cells ys : List A) → putMid k (length cells - k) cells ys ≡ take k cells ++ ys
+lent-back {A} k cells ys =
     let long : length (drop k cells) ≡ length cells - k = length-drop k cells in
     let none : postOf k (length cells - k) cells ≡ [] = drop-of-length-le (drop k cells) {i = length cells - k} (omega arith) in
-    ap (λ (l : List ℕ). take k cells ++ (ys ++ l)) none ∙ ap (λ (l : List ℕ). take k cells ++ l) (append-nil ys)
+    ap (λ (l : List A). take k cells ++ (ys ++ l)) none ∙ ap (λ (l : List A). take k cells ++ l) (append-nil ys)
 
 pub lent-tail : (k : ℕ) (cells ys : List ℕ) → k ≤ length cells → drop k (putMid k (length cells - k) cells ys) ≡ ys
 lent-tail k cells ys h = ap (drop k) (lent-back k cells ys) ∙ drop-at (take k cells) ys k (length-take-le k cells h)

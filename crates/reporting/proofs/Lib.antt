@@ -32,3 +32,5 @@ pub mod Emitting
 pub mod Meets
 pub mod Known
 pub mod Earliest
+pub mod Widths
+pub mod Given

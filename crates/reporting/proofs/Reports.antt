@@ -207,7 +207,16 @@ written set plan cells room rows columns out out′ e l o =
 
 -- ---- the counts of any answer
 
-few : (z n most : ℕ) → (z ≡ 0 → n ≤ most) → countAfter z n ≤ most
+-- at most 4,096 rows of at most 32 columns
+pub accepted-few : (set plan : List ℕ) → inputRefusal set plan ≡ 0 → (rowCount set plan ≤ 4096) × (columnCount set plan ≤ 32)
+accepted-few set plan a =
+    let T : Tables = tablesOf set in
+    let p : Plan = planOf plan in
+    let u : Unrefused T p = unrefused set plan a in
+    (low-rows T p (all-root (low T) p (u .lowAll)) outside, leb-true _ _ (all-root (narrow T) p (u .narrowAll)))
+
+-- a refused call counts nothing
+pub few : (z n most : ℕ) → (z ≡ 0 → n ≤ most) → countAfter z n ≤ most
 few zero n most h = h refl
 few (suc z) n most h = omega arith
 
@@ -215,13 +224,10 @@ accepted-number : (set plan : List ℕ) (room scratchRoom : ℕ) → reportNumbe
 unfolding reportNumber
 accepted-number set plan room scratchRoom e = or-next (inputRefusal set plan) _ e .0
 
--- at most 4,096 rows of at most 32 columns
 pub reported-few : (set plan : List ℕ) (out out′ : List ℤ) (scratch scratch′ : List ℕ) (r : Report) → Reported set plan out out′ scratch scratch′ r → (r .rows ≤ 4096) × (r .columns ≤ 32)
 reported-few set plan out out′ scratch scratch′ r e =
-    let T : Tables = tablesOf set in
-    let p : Plan = planOf plan in
     let z : ℕ = reportNumber set plan (length out) (length scratch) in
-    let u : z ≡ 0 → Unrefused T p = λ h. unrefused set plan (accepted-number set plan (length out) (length scratch) h) in
-    let m : countAfter z (rowCount set plan) ≤ 4096 = few z (rowCount set plan) 4096 (λ h. low-rows T p (all-root (low T) p (u h .lowAll)) outside) in
-    let w : countAfter z (columnCount set plan) ≤ 32 = few z (columnCount set plan) 32 (λ h. leb-true _ _ (all-root (narrow T) p (u h .narrowAll))) in
+    let k : z ≡ 0 → (rowCount set plan ≤ 4096) × (columnCount set plan ≤ 32) = λ h. accepted-few set plan (accepted-number set plan (length out) (length scratch) h) in
+    let m : countAfter z (rowCount set plan) ≤ 4096 = few z (rowCount set plan) 4096 (λ h. k h .0) in
+    let w : countAfter z (columnCount set plan) ≤ 32 = few z (columnCount set plan) 32 (λ h. k h .1) in
     (omega (arith, e .rows), omega (arith, e .columns))

@@ -5,7 +5,7 @@ ghost use Rattle.algebra.specs.Cells.{isBlank, isNumber, isUnequal, order, comp
 ghost use Rattle.reading.specs.Tree.{comparisonOf};
 
 // Whether a cell is neither blank nor off scale.
-pub(crate) fn is_number(x: u64) -> bool
+pub fn is_number(x: u64) -> bool
     ensures { λ r. ⌜ r ≡ isNumber x ⌝ }
 {
     if x == 0 {
@@ -47,7 +47,7 @@ fn beside_number(comparison: u8, x: u64) -> bool
 }
 
 // Two numbers compare as they are ordered; a number and a blank are unequal; no other comparison with a blank or off-scale side holds.
-pub(crate) fn compare(comparison: u8, a: u64, b: u64) -> bool
+pub fn compare(comparison: u8, a: u64, b: u64) -> bool
     ensures { λ r. ⌜ r ≡ compares (comparisonOf comparison) a b ⌝ }
 {
     let left = is_number(a);

@@ -1,7 +1,7 @@
 // Reporting: the evaluator of plans, and the reporting call.
 mod act;
 pub mod answer;
-mod cells;
+pub mod cells;
 mod columns;
 mod distinct;
 mod emit;

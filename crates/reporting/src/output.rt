@@ -6,7 +6,7 @@ ghost use lib.ListN.{length, take, drop, replicate};
 ghost use Rattle.reporting.specs.Report.{codeOf};
 
 // The signed code of a cell.
-fn code(cell: u64) -> i64
+pub fn code(cell: u64) -> i64
     ensures { λ r. ⌜ r ≡ codeOf cell ⌝ }
 {
     if cell < 9223372036854775808 {

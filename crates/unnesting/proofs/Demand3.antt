@@ -24,7 +24,7 @@ use Rattle.reporting.specs.Report.{reportRows, reportColumns, rowCount, columnC
 use Rattle.reporting.proofs.Reports.{or-next}
 use Rattle.unnesting.specs.Unnest.{bytesAfter, unnestSteps, unnestPlan, stepBytes, writtenSteps, writtenPlan, Unnested}
 use Rattle.unnesting.specs.Demand3.{bytesLeft, stepsIn, OwnSteps, Claim}
-use Rattle.unnesting.proofs.Widths.{report-cells}
+use Rattle.reporting.proofs.Widths.{report-cells}
 
 -- ---- the set and the plan are accepted apart
 

@@ -7,7 +7,6 @@ pub mod CountLaws
 pub mod JoinLaws
 pub mod RuleLaws
 pub mod MoveLaws
-pub mod Widths
 pub mod SequenceLaws
 pub mod Demand3
 pub mod UnnestLaws

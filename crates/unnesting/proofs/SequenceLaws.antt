@@ -40,7 +40,7 @@ use Rattle.unnesting.specs.declared.sequence.Compared.the-variants.{Same
 use Rattle.unnesting.proofs.PlaceLaws.{one-at, two-at}
 use Rattle.unnesting.proofs.RuleLaws.{rule-at}
 use Rattle.unnesting.proofs.CountLaws.{hasKind, no-select, other-kind, operator-select}
-use Rattle.unnesting.proofs.Widths.{Wide, nothing, more, eval-wide, table-wide}
+use Rattle.reporting.proofs.Widths.{Wide, nothing, more, eval-wide, table-wide}
 
 -- ---- sequences of cells, compared
 

@@ -108,10 +108,10 @@ table-wide set t =
     (λ r. length-map (upward (columnsOf table) 0) (tableCell table r) ∙ upward-length (columnsOf table) 0)
 
 -- so a report's cells, row by row, are its rows times its columns
-cells-count : {B : Type 0} (f : ℕ → B) (w : ℕ) {rs : List Row} → Wide w rs → length (flatMap (map f) rs) ≡ length rs * w
-cells-count f w nothing = sym (zero-mul w)
-cells-count f w (more {r = r} {rs = rs} e h) = length-append (map f r) (flatMap (map f) rs) ∙ (omega (arith, length-map r f, e, cells-count f w h) ∙ sym (suc-mul (length rs) w))
+pub cells-count : {B : Type 0} (f : Row → List B) → ((r : Row) → length (f r) ≡ length r) → (w : ℕ) {rs : List Row} → Wide w rs → length (flatMap f rs) ≡ length rs * w
+cells-count f k w nothing = sym (zero-mul w)
+cells-count f k w (more {r = r} {rs = rs} e h) = length-append (f r) (flatMap f rs) ∙ (omega (arith, k r, e, cells-count f k w h) ∙ sym (suc-mul (length rs) w))
 
 pub report-cells : {B : Type 0} (f : ℕ → B) (set : List ℕ) (p : Plan) (env : Env)
     → length (flatMap (map f) (eval (tablesOf set) p env)) ≡ length (eval (tablesOf set) p env) * length (columns (tablesOf set) p)
-report-cells f set p env = cells-count f (length (columns (tablesOf set) p)) (eval-wide (tablesOf set) (table-wide set) p env)
+report-cells f set p env = cells-count (map f) (λ r. length-map r f) (length (columns (tablesOf set) p)) (eval-wide (tablesOf set) (table-wide set) p env)
