@@ -1,0 +1,9 @@
+pub mod Amounts
+pub mod Runs
+pub mod Standings
+pub mod Tables
+pub mod ClubLines
+pub mod Funds
+pub mod Laws
+pub mod Examples
+pub mod Numbers
