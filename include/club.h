@@ -1,12 +1,14 @@
-/* The C interface of the club report plans: report, unnest, stay note, the check of steps made elsewhere, and the converter of versions.
+/* The C interface of the club report plans: report, unnest, stay note, the check of steps made elsewhere, the converter of versions, and the
+ * prize fund table.
  *
  * Link with libcabi.a, which `rt staticlib cabi` writes to target/staticlib/ once everything is proved (x86-64 Linux). The archive needs
  * nothing but the C library.
  *
- * The set of tables, the plan, a list of steps and the plan theirs are any bytes. A buffer is a pointer and the number of its elements (not
- * of its bytes, where an element is wider than one). What the caller owes: a pointer is not null, not even with length 0; it is aligned for
- * its element; so many elements can be read, and those of out, out_set, out_plan, out_steps and scratch written; and a buffer that is written
- * overlaps no other. No call allocates, keeps a pointer, or fails in any other way than by a refusal number.
+ * The set of tables, the plan, a list of steps and the plan theirs are any bytes; the purse and the shares are any numbers. A buffer is a
+ * pointer and the number of its elements (not of its bytes, where an element is wider than one). What the caller owes: a pointer is not null,
+ * not even with length 0; it is aligned for its element; so many elements can be read, and those of out, out_set, out_plan, out_steps and
+ * scratch written; and a buffer that is written overlaps no other. No call allocates, keeps a pointer, or fails in any other way than by a
+ * refusal number.
  *
  * Tables and plans are of version 2, but for those that the converter takes up from version 1 and gives back in it. A cell is a signed
  * 64-bit code: a number from -9,000,000,000,000,000 to 9,000,000,000,000,000, or one of the two codes below. A set has at most 1,024,064
@@ -23,6 +25,8 @@
  *    6  plan's length                       14  a bound over 4,096 rows
  *    7  plan's mark, or not version 2       15  output short
  *    8  node count                          16  scratch below the need; tested before 15
+ *                                           17  purse, or shares that are none, over 20 or do not sum; tested before 18
+ *                                           18  a prize report of fewer than two columns; tested after 16 and before 15
  *                                           20  a list of steps of odd length, or a rule outside 1 to 8; tested before 16
  *                                           21  a step does not fit, or another plan is left; tested after 16
  *                                           25  a number that does not fit version 1; tested before 15
@@ -79,6 +83,14 @@ uint64_t club_convert_up(const uint8_t *set, size_t set_len, const uint8_t *plan
 uint64_t club_convert_down(const uint8_t *set, size_t set_len, const uint8_t *plan, size_t plan_len,
                            uint8_t *out_set, size_t out_set_len, uint8_t *out_plan, size_t out_plan_len);
 
+/* The prize fund table of a report whose first column is the player and whose second is the score, best row first: player and pence, two cells
+ * a row, at the front of out. The purse is in pence, 0 to 100,000,000; 1 to 20 shares of it, in hundredths of a per cent, sum to 10,000, and the
+ * first is that of the first row's place. The club line is the pence that no row gets; payments and the club line add up to the purse.
+ * Gives refusal + 2^8 * rows + 2^24 * club line. */
+uint64_t club_prize(const uint8_t *set, size_t set_len, const uint8_t *plan, size_t plan_len,
+                    uint64_t purse, const uint32_t *shares, size_t shares_len,
+                    int64_t *out, size_t out_len, uint64_t *scratch, size_t scratch_len);
+
 /* The parts of a word. */
 static inline unsigned club_refusal(uint64_t word) { return (unsigned)(word & 0xff); }
 static inline size_t club_columns(uint64_t report) { return (size_t)(report >> 8 & 0xff); }
@@ -87,6 +99,8 @@ static inline size_t club_steps(uint64_t unnested) { return (size_t)(unnested >>
 static inline size_t club_plan_bytes(uint64_t unnested) { return (size_t)(unnested >> 24); }
 static inline size_t club_converted_plan_bytes(uint64_t converted) { return (size_t)(converted >> 8 & 0xffff); }
 static inline size_t club_converted_set_bytes(uint64_t converted) { return (size_t)(converted >> 24); }
+static inline size_t club_prize_rows(uint64_t prizes) { return (size_t)(prizes >> 8 & 0xffff); }
+static inline uint64_t club_line(uint64_t prizes) { return prizes >> 24; }
 static inline int club_has_note(uint64_t note) { return (note & 0xffff) == 0x100; }
 static inline size_t club_position(uint64_t note) { return (size_t)(note >> 16); }
 

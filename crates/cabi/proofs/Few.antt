@@ -19,25 +19,16 @@ use Rattle.algebra.proofs.Steps.{run-3, run-length, weight-size}
 use Rattle.algebra.proofs.StayNotes.{first-within}
 use Rattle.reading.specs.TableSet.{tablesOf}
 use Rattle.reading.specs.Tree.{planOf}
-use Rattle.reading.specs.Check.{orNext, inputRefusal}
+use Rattle.reading.specs.Check.{inputRefusal}
 use Rattle.reading.proofs.PlanBytes.{plan-passed}
 use Rattle.reading.proofs.Places.{whole-size}
 use Rattle.reporting.specs.Report.{countAfter}
+use Rattle.reporting.proofs.Reports.{or-next, few}
 use Rattle.unnesting.specs.Unnest.{unnestSteps, unnestNumber, writtenPlan, Unnested}
 use Rattle.unnesting.specs.StayNote.{stayNumber, noteDue, noteOf, noteAfter, StayNoted}
 use Rattle.unnesting.specs.declared.stay_note.StayNote.{StayNote}
 use Rattle.unnesting.specs.declared.stay_note.StayNote.the-variants.{Refused, None, Position}
 use Rattle.unnesting.proofs.Demand3.{input-parts, demand-3}
-
--- ---- a call that does not refuse has accepted its input
-
-or-next : (a b : ℕ) → orNext a b ≡ 0 → a ≡ 0
-or-next zero b e = refl
-or-next (suc a) b e = absurd (omega arith)
-
-few : (z n most : ℕ) → (z ≡ 0 → n ≤ most) → countAfter z n ≤ most
-few zero n most h = h refl
-few (suc z) n most h = omega arith
 
 -- ---- unnesting: at most 192 steps, and a plan of at most 1,542 bytes
 
@@ -61,7 +52,7 @@ pub unnested-few : (set plan planOut planOut′ stepsOut stepsOut′ scratch scr
 unfolding unnestNumber
 unnested-few set plan planOut planOut′ stepsOut stepsOut′ scratch scratch′ refusal steps bytes e =
     let z : ℕ = unnestNumber set plan (length planOut) (length stepsOut) (length scratch) in
-    let a : z ≡ 0 → inputRefusal set plan ≡ 0 = λ h. or-next (inputRefusal set plan) _ h in
+    let a : z ≡ 0 → inputRefusal set plan ≡ 0 = λ h. or-next (inputRefusal set plan) _ h .0 in
     let n : countAfter z (length (unnestSteps set plan)) ≤ 192 = few z _ 192 (λ h. steps-few set plan (a h)) in
     let b : countAfter z (length (writtenPlan set plan)) ≤ 2054 = few z _ 2054 (λ h. bytes-few set plan (a h)) in
     (omega (arith, e .stepCount), omega (arith, e .byteCount))
@@ -120,5 +111,5 @@ unfolding stayNumber
 noted-few set plan place scratch scratch′ r n = subst (λ (x : StayNote). positionOf x ≤ 4096) (sym (n .answer)) (by (stayNumber set plan (length scratch)) refl)
   where
     by : (k : ℕ) → stayNumber set plan (length scratch) ≡ k → positionOf (noteAfter k (noteDue set plan place)) ≤ 4096
-    by zero e = due-few set plan place (or-next (inputRefusal set plan) _ e)
+    by zero e = due-few set plan place (or-next (inputRefusal set plan) _ e .0)
     by (suc k) e = omega arith

@@ -14,6 +14,8 @@ use Rattle.unnesting.specs.declared.stay_note.StayNote.the-variants.{Refused, N
 use Rattle.reading.specs.declared.version.Version.{Version}
 use Rattle.conversion.specs.Convert.{ConvertedFrom}
 use Rattle.conversion.specs.declared.convert.Converted.{Converted}
+use Rattle.prizes.specs.Prize.{Prized}
+use Rattle.prizes.specs.declared.answer.Prizes.{Prizes}
 
 -- ---- the words
 
@@ -34,6 +36,10 @@ stayWord (Position position) = 256 + 65536 * position
 -- refusal + 2 ^ 8 · bytes of the plan + 2 ^ 24 · bytes of the set
 abbrev pub convertWord : Converted → ℕ
 convertWord r = r .refusal + 256 * r .plan + 16777216 * r .set
+
+-- refusal + 2 ^ 8 · rows + 2 ^ 24 · club line
+abbrev pub prizeWord : Prizes → ℕ
+prizeWord r = r .refusal + 256 * r .rows + 16777216 * r .club
 
 -- ---- the calls: the word holds an answer that is the lower layer's, with its buffers
 
@@ -62,3 +68,8 @@ pub record ConvertCalled (from to : Version) (set plan setOut setOut′ planOut 
   pub answer : Converted
   pub converted : ConvertedFrom from to set plan setOut setOut′ planOut planOut′ answer
   pub encoded : word ≡ convertWord answer
+
+pub record PrizeCalled (set plan : List ℕ) (purse : ℕ) (shares : List ℕ) (out out′ : List ℤ) (scratch scratch′ : List ℕ) (word : ℕ) : Type 0 where
+  pub answer : Prizes
+  pub prized : Prized set plan purse shares out out′ scratch scratch′ answer
+  pub encoded : word ≡ prizeWord answer

@@ -2,10 +2,11 @@
 ghost use mathlib.Core.Path.{_≡_};
 ghost use Prim.Native.Nat.{_≤_};
 ghost use Rattle.reading.specs.declared.version.Version.the-variants.{First, Second};
-ghost use Rattle.cabi.specs.Words.{convertWord, ReportCalled, UnnestCalled, StayNoteCalled, CheckStepsCalled, ConvertCalled};
+ghost use Rattle.cabi.specs.Words.{convertWord, ReportCalled, UnnestCalled, StayNoteCalled, CheckStepsCalled, ConvertCalled, PrizeCalled};
 use conversion::convert::Converted;
 use conversion::convert::convert_down;
 use conversion::convert::convert_up;
+use prizes::prize::prize;
 use reporting::report::report;
 use unnesting::check_steps::check_steps;
 use unnesting::stay_note::StayNote;
@@ -103,4 +104,22 @@ pub extern "C" fn club_convert_down(
     ensures { λ r. ⌜ ConvertCalled Second First (now (set .entry)) (now (plan .entry)) (now («out_set» .entry)) (now («out_set» .exit)) (now («out_plan» .entry)) (now («out_plan» .exit)) r ⌝ }
 {
     convert_word(convert_down(set, plan, out_set, out_plan))
+}
+
+// The prize call. C gets refusal + 2^8 * rows + 2^24 * club line.
+#[no_mangle]
+pub extern "C" fn club_prize(
+    set: &[u8],
+    plan: &[u8],
+    purse: u64,
+    shares: &[u32],
+    out: &mut [i64],
+    scratch: &mut [u64],
+) -> u64
+    ensures { λ r. ⌜ PrizeCalled (now (set .entry)) (now (plan .entry)) purse (now (shares .entry)) (now (out .entry)) (now (out .exit)) (now (scratch .entry)) (now (scratch .exit)) r ⌝ }
+{
+    let answer = prize(set, plan, purse, shares, out, scratch);
+    let refusal = answer.refusal as u64;
+    let rows = answer.rows as u64;
+    refusal + 256 * rows + 16777216 * answer.club
 }
