@@ -150,7 +150,3 @@ module _ (purse : ℕ) (shares : List ℕ) (sum : total shares ≡ 10000) where
   pub places-total : total (placePence purse shares) ≡ purse
   unfolding placePence
   places-total = one-each-total (leftOver purse shares) (map (shareOf purse) shares) left-few ∙ omega (arith, floors-within)
-
-pub places-length : (purse : ℕ) (shares : List ℕ) → length (placePence purse shares) ≡ length shares
-unfolding placePence
-places-length purse shares = one-each-length (leftOver purse shares) (map (shareOf purse) shares) ∙ length-map shares (shareOf purse)
