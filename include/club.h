@@ -25,8 +25,8 @@
  *    6  plan's length                       14  a bound over 4,096 rows
  *    7  plan's mark, or not version 2       15  output short
  *    8  node count                          16  scratch below the need; tested before 15
- *                                           17  purse, or shares that are none, over 20 or do not sum; tested before 18
- *                                           18  a prize report of fewer than two columns; tested after 16 and before 15
+ *                                           17  a purse over 100,000,000, or not 1 to 20 shares that sum to 10,000; tested after 16
+ *                                           18  a prize report of fewer than two columns; tested after 17 and before 15
  *                                           20  a list of steps of odd length, or a rule outside 1 to 8; tested before 16
  *                                           21  a step does not fit, or another plan is left; tested after 16
  *                                           25  a number that does not fit version 1; tested before 15
