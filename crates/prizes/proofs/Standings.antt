@@ -2,8 +2,8 @@
 use Prim.Native.Nat.{ℕ, zero, suc, _+_, _*_, _≤_, _<_}
 use native.Mathlib.Omega.{arith}
 use native.Mathlib.Nat.{suc-mul, zero-mul, mul-le-mul}
-use mathlib.Core.Path.{_≡_, refl, ap, _∙_}
-use mathlib.Core.List.{List, [], _∷_, map}
+use mathlib.Core.Path.{_≡_, ap, _∙_}
+use mathlib.Core.List.{List, map}
 use lib.ListN.{length, drop, getD, length-map}
 use lib.Seq.{getD-take, getD-drop}
 use Rattle.reporting.specs.Rows.{chunk}
@@ -35,12 +35,6 @@ module _ (rows w : ℕ) (cells : List ℕ) where
   pub scores-length : length (scoresIn rows w cells) ≡ rows
   unfolding scoresIn
   scores-length = length-map (chunk rows w cells) _ ∙ length-chunk rows w cells
-
--- past the last row there is no score
-pub none-past : (xs : List ℕ) (i : ℕ) → length xs ≤ i → getD xs i 0 ≡ 0
-none-past [] i h = refl
-none-past (x ∷ xs) zero h = absurd (omega arith)
-none-past (x ∷ xs) (suc i) h = none-past xs i (omega arith)
 
 -- a row's cells are in the cells, and their places are small
 pub row-inside : (rows w : ℕ) (cells : List ℕ) (i : ℕ) → InCells rows w cells → i < rows → (i * w + w ≤ length cells) × (i * w + w ≤ 131072)

@@ -3,7 +3,8 @@ use mathlib.Core.Path.{sym, ap, _∙_}
 use native.Mathlib.Omega.{arith}
 use Rattle.algebra.specs.Cells.{isNumber}
 use Rattle.prizes.specs.Helpers.{scoresIn}
-use Rattle.prizes.proofs.Standings.{score-at, scores-length, none-past, row-inside}
+use Rattle.prizes.proofs.Standings.{score-at, scores-length, row-inside}
+use lib.ListN.{List·getD-eq-default}
 use borrow.Author.Needs.{needs}
 use Rattle.prizes.proofs.pools.has_number.Statement.{statement}
 use Rattle.prizes.proofs.pools.has_number.Tie as tie
@@ -15,7 +16,7 @@ use Rattle.reporting.proofs.cells.is_number.Reads as is-number-reads
 returns : tie.Need-returns
 returns c =
     let a = c .before .before .args in
-    sym (ap isNumber (none-past (scoresIn (a .rows) (a .columns) (a .cells .now)) (a .i) (omega (arith, scores-length (a .rows) (a .columns) (a .cells .now), c .if1 .taken))))
+    sym (ap isNumber (List·getD-eq-default (scoresIn (a .rows) (a .columns) (a .cells .now)) 0 (omega (arith, scores-length (a .rows) (a .columns) (a .cells .now), c .if1 .taken))))
 
 -- src/pools.rt:38:21
 mul-is-number : tie.Need-mul-is-number
