@@ -1,4 +1,6 @@
 // The C interface. Each slice is passed as a pointer and a length, in this order; include/club.h has the declarations.
+#![tactic(auto)]
+
 ghost use Rattle.std.specs.Prelude.{◌≡◌, ◌≤◌};
 ghost use Rattle.reading.specs.declared.version.Version.TheVariants.{First, Second};
 ghost use Rattle.cabi.specs.Words.{convert_word, ReportCalled, UnnestCalled, StayNoteCalled, CheckStepsCalled, ConvertCalled, PrizeCalled};

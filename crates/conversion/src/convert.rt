@@ -10,7 +10,7 @@ use reading::input::{Checked, check_as};
 use reading::version::Version;
 
 // The refusal, 0 for none, and the bytes written to each output.
-#[derive(Drop)]
+#[derive(Clone, Copy)]
 pub struct Converted {
     pub refusal: u8,
     pub set: usize,

@@ -1,6 +1,8 @@
 // The converter's program: takes the set of `club.tbl` and the plan of `club.rpt`, both in the working folder, to the other version, and
 // writes `converted.tbl` and `converted.rpt` beside them, never over a file that is there. Its argument is `up`, from version 1 to version
 // 2, or `down`, back. Where the call turns its input back it prints only `refused` and the number.
+#![tactic(auto)]
+
 mod write;
 
 use conversion::convert::{Converted, convert_down, convert_up};

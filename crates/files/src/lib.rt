@@ -1,4 +1,6 @@
 // What the programs share: reading a file of the working folder, and the buffer for a set.
+#![tactic(auto)]
+
 ghost use Rattle.io.specs.Counts.{IsPrefixLen};
 ghost use Rattle.std.specs.Prelude.{◌≡◌, length};
 

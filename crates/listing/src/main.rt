@@ -1,5 +1,7 @@
 // The listing program: unnests the plan of `club.rpt` over the tables of `club.tbl`, both in the working folder, and prints the steps and the
 // report of the plan left. Where a call turns its input back it prints only `refused` and the number.
+#![tactic(auto)]
+
 mod buffers;
 mod cell;
 mod print;

@@ -4,7 +4,7 @@ ghost use Rattle.algebra.specs.Lists.{upward};
 ghost use Rattle.reading.specs.Flags.{Marks, Adds};
 
 // Flags, and whether every id that was marked in them was new.
-#[derive(Drop)]
+#[derive(Clone, Copy)]
 pub struct Marked {
     pub ok: bool,
     pub flags: [u8; 256],

@@ -16,7 +16,7 @@ use crate::version::Version;
 use crate::view::tree_seen;
 
 // What checking a set and a plan gives: how many tables and nodes they have and the need in cells, or a refusal's number.
-#[derive(Drop)]
+#[derive(Clone, Copy)]
 pub enum Checked {
     Accepted {
         tables: usize,

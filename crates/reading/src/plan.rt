@@ -12,14 +12,14 @@ const FIRST_MARK: [u8; 5] = [82, 80, 84, 1, 0];
 pub const PLAN_MARK: [u8; 5] = [82, 80, 84, 2, 0];
 
 // What reading a plan gives: how many nodes it has, or a refusal's number.
-#[derive(Drop)]
+#[derive(Clone, Copy)]
 pub enum PlanRead {
     Nodes(usize),
     Refused(u8),
 }
 
 // A node's test, without its not-mark: always; a column with a column; a column with a number, given as a cell's word.
-#[derive(Drop)]
+#[derive(Clone, Copy)]
 pub enum Test {
     Always,
     Columns {
@@ -34,7 +34,7 @@ pub enum Test {
     },
 }
 
-#[derive(Drop)]
+#[derive(Clone, Copy)]
 pub struct Node {
     pub kind: u8,
     pub arg: u8,

@@ -10,14 +10,14 @@ use crate::bytes::{byte_at, head, starts_with, tail};
 use crate::version::{Version, cell_size, version_at};
 
 // What reading a set gives: how many tables it has, or a refusal's number.
-#[derive(Drop)]
+#[derive(Clone, Copy)]
 pub enum SetRead {
     Holds(usize),
     Refused(u8),
 }
 
 // What reading one table gives: how many bytes it has, or a refusal's number.
-#[derive(Drop)]
+#[derive(Clone, Copy)]
 pub enum TableRead {
     Whole(usize),
     Bad(u8),

@@ -5,7 +5,7 @@ ghost use Rattle.reading.specs.Versions.{version_of, cell_size, node_size};
 
 use crate::bytes::byte_at;
 
-#[derive(Drop)]
+#[derive(Clone, Copy)]
 pub enum Version {
     First,
     Second,

@@ -1,3 +1,5 @@
+#![tactic(auto)]
+
 ghost use Rattle.std.specs.Prelude.{◌<◌};
 // Reads cases from standard input and prints what reading gives for each: a refusal's number, or how many tables and nodes there are and
 // the need in cells. A case is the set's length and the plan's, 32 bits each, low byte first, then the bytes of both.

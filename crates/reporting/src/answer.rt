@@ -1,7 +1,7 @@
 // What the reporting call returns.
 
 // A refusal's number and zero counts; or 0, and the report's counts.
-#[derive(Drop)]
+#[derive(Clone, Copy)]
 pub struct Report {
     pub refusal: u8,
     pub rows: usize,

@@ -18,7 +18,7 @@ use reading::set::number_word;
 // What the measured cells of the rows that passed so far come to: how many rows; of those with no blank how many, their sum, the least
 // and the greatest; and whether one is off scale. The sum of 4,096 cells can take 76 bits, so those of the cells' lower and of their upper
 // halves are kept apart.
-#[derive(Drop)]
+#[derive(Clone, Copy)]
 pub struct Tally {
     pub rows: usize,
     pub numbers: usize,

@@ -1,4 +1,6 @@
 // Reporting: the evaluator of plans, and the reporting call.
+#![tactic(auto)]
+
 mod act;
 pub mod answer;
 pub mod cells;

@@ -13,7 +13,7 @@ use crate::test::{has_keys, key_comparison};
 use reading::plan::{Node, Test};
 
 // Where a value is read: at a place of the left row, at a place of the right row, or it is one word whatever the rows.
-#[derive(Drop)]
+#[derive(Clone, Copy)]
 pub enum Side {
     Left(usize),
     Right(usize),
@@ -21,7 +21,7 @@ pub enum Side {
 }
 
 // A comparison of two sides under a not-mark; where it is an always, the outcome under the mark is true whatever the sides.
-#[derive(Drop)]
+#[derive(Clone, Copy)]
 pub struct Condition {
     pub always: bool,
     pub comparison: u8,
@@ -31,7 +31,7 @@ pub struct Condition {
 }
 
 // What a node asks of a left row and a right row, and what its aggregate, by its code, measures of them.
-#[derive(Drop)]
+#[derive(Clone, Copy)]
 pub struct Found {
     pub keys: Condition,
     pub test: Condition,
@@ -40,7 +40,7 @@ pub struct Found {
 }
 
 // Where two keys stand that are compared by =, the left one in the left row and the right one in the right row.
-#[derive(Drop)]
+#[derive(Clone, Copy)]
 pub enum KeyPlaces {
     Equal { left: usize, right: usize },
     Other,

@@ -1,5 +1,7 @@
 // Reads cases from standard input and prints what reporting gives for each: a refusal's number, or the counts and the cells of the report,
 // each cell as its code plus 2^63. A case is the set's length and the plan's, 32 bits each, low byte first, then the bytes of both.
+#![tactic(auto)]
+
 ghost use Rattle.std.specs.Prelude.{◌≡◌, ◌<◌, length};
 
 use libc::{STDIN_FILENO, STDOUT_FILENO};

@@ -11,7 +11,7 @@ use reading::tree::nodes_of;
 
 // A change of a plan at a place: `first` stands in the place of the node there; then come the nodes from the next place up to `keep`, then
 // none, one or both of `second` and `third`, then the nodes from `from` to the plan's end.
-#[derive(Drop)]
+#[derive(Clone, Copy)]
 pub struct Change {
     pub first: Node,
     pub keep: usize,
@@ -23,7 +23,7 @@ pub struct Change {
 
 // What a node's rule makes of its tree, so far as the plan alone decides: whether it fits, and where it does, its change. (A struct, since the
 // checker does not cover an enum that holds arrays, as a node does.)
-#[derive(Drop)]
+#[derive(Clone, Copy)]
 pub struct Shape {
     pub fits: bool,
     pub change: Change,

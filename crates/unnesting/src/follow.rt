@@ -11,7 +11,7 @@ use crate::image::write_bytes;
 use crate::step::{Tried, try_step};
 
 // How following a list of steps ended: scratch was short of a plan reached, a step did not fit, or all fitted and left a plan of so many bytes.
-#[derive(Drop)]
+#[derive(Clone, Copy)]
 pub enum Followed {
     Short,
     Unfit,

@@ -12,7 +12,7 @@ use reading::plan::{Node, node_at};
 use reading::tree::nodes_of;
 
 // A set of ids below 256: a has the ids 0 to 63, b those to 127, c those to 191, d those to 255.
-#[derive(Drop)]
+#[derive(Clone, Copy)]
 pub struct IdSet {
     a: u64,
     b: u64,
@@ -21,7 +21,7 @@ pub struct IdSet {
 }
 
 // An id that is free, or that none is.
-#[derive(Drop)]
+#[derive(Clone, Copy)]
 pub enum Free {
     Id(u8),
     None,

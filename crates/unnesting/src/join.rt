@@ -21,7 +21,7 @@ use reading::tree::tree_end;
 use reading::view::add_columns;
 
 // How a comparison links a left and a right row: a left key, a right key and the comparison of the two.
-#[derive(Drop)]
+#[derive(Clone, Copy)]
 pub enum Link {
     None,
     Keys { left: u8, right: u8, comparison: u8 },

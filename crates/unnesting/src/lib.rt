@@ -2,6 +2,8 @@
 // as the plan alone decides (`join`, `count`, by `ids` and by reading's `free`), `sequence` what rows decide, `change` writes the plan after it
 // (`image`), `step` tries a place and finds the smallest that fits, `run` goes on until none does, `follow` takes the steps of a
 // list that is given.
+#![tactic(auto)]
+
 mod change;
 pub mod check_steps;
 mod count;

@@ -12,7 +12,7 @@ use crate::step::{Found, smallest_step};
 
 // How a run ended: whether scratch was enough for every plan passed through, and where it was, how many steps there are and how long the
 // last plan is.
-#[derive(Drop)]
+#[derive(Clone, Copy)]
 pub struct Ran {
     pub enough: bool,
     pub steps: usize,

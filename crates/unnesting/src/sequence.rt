@@ -19,7 +19,7 @@ use reading::tree::tree_end;
 use reporting::subplan::{keys_at, rows_at};
 
 // The outcome of comparing two sequences: the same, or the first position at which they differ or just one has ended.
-#[derive(Drop)]
+#[derive(Clone, Copy)]
 pub enum Compared {
     Same,
     Differ(usize),

@@ -16,7 +16,7 @@ use reading::tree::nodes_of;
 use reporting::output::clear;
 
 // What the stay note call gives: a refusal's number, no note, or the first position at which the sequences differ or just one has ended.
-#[derive(Drop)]
+#[derive(Clone, Copy)]
 pub enum StayNote {
     Refused(u8),
     None,

@@ -18,14 +18,14 @@ use reading::plan::{Node, node_at};
 use reading::tree::nodes_of;
 
 // Whether there is a plan after a step, with its length in bytes and its need in cells.
-#[derive(Drop)]
+#[derive(Clone, Copy)]
 pub enum Tried {
     No,
     Yes { length: usize, need: usize },
 }
 
 // The step at the smallest place where a rule fits, with the length and the need of the plan after it; or that no rule fits anywhere.
-#[derive(Drop)]
+#[derive(Clone, Copy)]
 pub enum Found {
     Nothing,
     Step {

@@ -13,7 +13,7 @@ use reading::input::{Checked, check_input};
 use reporting::output::clear;
 
 // What the unnesting call gives: the refusal's number, 0 for none, how many steps there are, and how many bytes the last plan takes.
-#[derive(Drop)]
+#[derive(Clone, Copy)]
 pub struct Unnested {
     pub refusal: u8,
     pub steps: usize,
