@@ -1,0 +1,29 @@
+use Prim.Native.Nat.{◌+◌, ◌-◌}
+use native.Mathlib.Omega.{arith}
+use borrow.Author.Rules.{rules}
+use mathlib.Core.Path.{◌≡◌, ap, ◌∙◌}
+use mathlib.Core.Logic.{⊎_elim}
+use lib.ListN.{length, length-set}
+use Rattle.reading.proofs.IdLaws.{member-upward, flag-set, flag_above}
+use Rattle.reading.proofs.flags.add_ids.Goals as goal
+
+pub loop-k-init : goal.loop-k-init
+loop-k-init c = (omega arith, search rules, λ ids f. f)
+
+pub loop-k-preserved : goal.loop-k-preserved
+loop-k-preserved c =
+    let a = c.args in
+    let l = c.loop-k in (
+      omega arith,
+      ⊎_elim (λ w. ap length w.1 ∙ (length-set l.marks (a.first + l.k) 1 ∙ l.invariant.1)) (λ w. ap length w.1 ∙ l.invariant.1) c.if-id-lt256.branch,
+      λ ids f. ⊎_elim
+          (λ w. rw w.1 (flag-set (l.invariant.2 ids f) (a.first + l.k) (omega arith) (λ j. member-upward j l.k a.first ids)))
+          (λ w. rw w.1 (flag_above (l.invariant.2 ids f) (a.first + l.k) (omega arith) (λ j. member-upward j l.k a.first ids)))
+          c.if-id-lt256.branch,
+    )
+
+pub returns : goal.returns
+returns c =
+    let l = c.loop-k in
+    let q : l.k ≡ c.args.count = omega arith in
+    record { after = λ ids f. rw (← q) (l.invariant.2 ids f) }

@@ -1,0 +1,6 @@
+use Rattle.reading.specs.Plan.{node_of}
+use Rattle.reading.proofs.plan.node_of.Goals as goal
+
+pub returns : goal.returns
+unfolding node_of
+returns c = rw (← c.test_of-test.ensures)

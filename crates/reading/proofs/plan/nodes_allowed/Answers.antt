@@ -1,0 +1,32 @@
+use borrow.Author.Count.{below_none, below_more}
+use Prim.Native.Nat.{◌-◌}
+use native.Mathlib.Omega.{arith}
+use mathlib.Core.Path.{sym, ap, ◌∙◌}
+use mathlib.Core.Bool.{true}
+use Rattle.reading.specs.Plan.{node_part, fields_allowed, nodes_allowed}
+use Rattle.reading.proofs.Laws.{all-holds, all-fails}
+use Rattle.reading.proofs.plan.nodes_allowed.Goals as goal
+
+pub loop-i-init : goal.loop-i-init
+loop-i-init c = (omega arith, below_none _)
+
+pub returns-then-not-fields_allowed : goal.returns-then-not-fields_allowed
+unfolding nodes_allowed
+returns-then-not-fields_allowed c =
+    let l = c.loop-i in
+    sym (all-fails _ _ l.i (omega arith)
+    (sym (c.fields_allowed.ensures ∙ ap (fields_allowed _) c.node_part.ensures) ∙ c.if-not-fields_allowed.true))
+
+pub loop-i-preserved : goal.loop-i-preserved
+loop-i-preserved c =
+    let l = c.loop-i in (
+      omega arith,
+      below_more _ _ l.invariant.1
+          (sym (c.fields_allowed.ensures ∙ ap (fields_allowed _) c.node_part.ensures) ∙ c.if-not-fields_allowed.false),
+    )
+
+pub returns : goal.returns
+unfolding nodes_allowed
+returns c =
+    let l = c.loop-i in
+    sym (all-holds _ _ (λ k h. l.invariant.1 k (omega arith)))

@@ -1,0 +1,32 @@
+use mathlib.Core.Logic.{⊎_elim}
+use mathlib.Core.Path.{◌≡◌, sym, ◌∙◌}
+use lib.ListN.{drop}
+use borrow.Author.Tests.{eq-eqb, ne_eqb}
+use Rattle.reading.specs.Bytes.{byte_at}
+use Rattle.reading.specs.Versions.{test_size}
+use Rattle.reading.specs.Plan.{test_row, limited, test_limits}
+use Rattle.reading.proofs.plan.test_allowed.Goals as goal
+use Rattle.reading.proofs.plan.test_allowed.Goals.{After-bytes_within, Joined-has-eq0}
+
+row_is : (c : Joined-has-eq0) → c.if-has-eq0.row ≡ test_row c.args.has (byte_at c.args.node.now 16)
+row_is c =
+    ⊎_elim (λ w. rw (eq-eqb _ _ w.0.taken) w.1) (λ w. rw (ne_eqb _ _ w.0.left, ← c.byte_at-form.ensures) w.1) c.if-has-eq0.branch
+
+ranged : (c : After-bytes_within)
+    → let a = c.args in
+    c.bytes_within.result ≡ limited (test_size a.version) (drop 16 a.node.now) (drop (test_row a.has (byte_at a.node.now 16)) test_limits)
+ranged c =
+    c.bytes_within.ensures ∙ rw (c.tail-2.ensures, row_is (goal.at.None c).Joined-has-eq0, c.tail.ensures, c.node_size-size.ensures.value)
+
+pub returns-then-not-bytes_within : goal.returns-then-not-bytes_within
+returns-then-not-bytes_within c = rw (sym (ranged (goal.at.returns-then-not-bytes_within c).After-bytes_within) ∙ c.if-not-bytes_within.true)
+
+pub returns-then-form-ne2 : goal.returns-then-form-ne2
+returns-then-form-ne2 c =
+    let e = c.byte_at-form.ensures in
+    rw (sym (ranged (goal.at.returns-then-form-ne2 c).After-bytes_within) ∙ c.if-not-bytes_within.false, ← e, ne_eqb _ _ c.if-form-ne2.true)
+
+pub returns : goal.returns
+returns c =
+    let e = c.byte_at-form.ensures in
+    rw (sym (ranged (goal.at.returns c).After-bytes_within) ∙ c.if-not-bytes_within.false, ← e, eq-eqb _ _ c.if-form-ne2.false, ← c.test_number.ensures) c.number_as.ensures
