@@ -80,7 +80,7 @@ subtrees-under plan (suc d) i h g =
     (λ x e l. ap (λ (q : Plan). q ∷ []) (sym e))
     (λ u e l. rw (e, ← add-one i) (ap (λ (ps : List Plan). one u (first_tree plan i) ∷ ps) (subtrees-under plan d (i + 1) (omega arith) (omega arith))))
     (λ b e l.
-    rw (e, ← add-one i, upward_append, map-append)
+    rw (e, ← add-one i, upward_append, map-append (plan_at plan))
     (ap₂ (λ (ps qs : List Plan). two b (first_tree plan i) (second_tree plan i) ∷ (ps ++ qs))
     (subtrees-under plan d (i + 1) (omega arith) (omega arith))
     (subtrees-under plan d (i + 1 + size (first_tree plan i)) (omega arith) (omega arith))))
@@ -114,7 +114,7 @@ introduced-nodes : (T : Tables) (p : Plan) → introduced T p ≡ flat_map (oper
 unfolding introduced flatten
 introduced-nodes T (leaf x) = sym (append-nil (leaf_columns T x))
 introduced-nodes T (one u p) = ap (λ (ids : List ℕ). unary_new u ++ ids) (introduced-nodes T p)
-introduced-nodes T (two b e f) = rw (introduced-nodes T e, introduced-nodes T f, flat_map-joined)
+introduced-nodes T (two b e f) = rw (introduced-nodes T e, introduced-nodes T f, flat_map-joined (operator_new T))
 
 module _ (plan : List ℕ) (whole : whole_tree plan ≡ true) where
   pub whole-size : size (plan_of plan) ≡ nodes_of plan

@@ -31,8 +31,7 @@ returns-else-second-lt1 c =
 pub returns-in-2-to-14 : goal.returns-in-2-to-14
 returns-in-2-to-14 c =
     let a = c.args in
-    let h = c.in_default-1.rest in
-    rw (first-bound a.set.now a.node a.first a.second c.if-kind-lt1.false c.if-kind-lt15.true h.0.0.1 h.0.1 h.1) (within_cap a.first 4097 c.requires)
+    rw (first-bound a.set.now a.node a.first a.second (omega arith) (omega arith) (λ z. omega arith) (λ z. omega arith) (λ z. omega arith)) (within_cap a.first 4097 c.requires)
 
 pub returns-in_default : goal.returns-in_default
 returns-in_default c =
@@ -43,4 +42,4 @@ returns-in_default c =
 pub returns-in_default-2 : goal.returns-in_default-2
 returns-in_default-2 c =
     let a = c.args in
-    rw (above-bound a.set.now a.node a.first a.second c.if-kind-lt15.false)
+    rw (above-bound a.set.now a.node a.first a.second (omega arith))

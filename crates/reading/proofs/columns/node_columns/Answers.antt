@@ -28,9 +28,9 @@ returns-in-13 c =
 pub returns-in-3 : goal.returns-in-3
 returns-in-3 c =
     let a = c.args in
-    let h = c.in_default-1.rest in
+    let h = c.in-3.in_default-own.rest in
     let e = c.list_length.ensures in
-    rw (list-width a.set.now a.node a.first a.second c.if-kind-lt1.false c.if-kind-lt5.true h.0.0.0.0.1 (λ z. h.1 (inl z)), ← e.1)
+    rw (list-width a.set.now a.node a.first a.second (omega arith) (omega arith) h.0.0.0.0.1 (λ z. h.1 (inl z)), ← e.1)
     (within_cap c.list_length.result 33 (omega arith))
 
 pub returns-in_default : goal.returns-in_default
@@ -42,8 +42,8 @@ returns-in_default c =
 pub returns-in_default-2 : goal.returns-in_default-2
 returns-in_default-2 c =
     let a = c.args in
-    let h = c.in_default-1.rest in
-    rw (above-width a.set.now a.node a.first a.second c.if-kind-lt10.false (λ z. h.0.0.1 (inl z)) (λ z. h.0.0.0.1 (inr z)) (λ z. h.0.0.1 (inr z)) h.0.1 (λ z. h.1 (inr z)))
+    let h = c.in_default.in_default-own.rest in
+    rw (above-width a.set.now a.node a.first a.second (omega arith) (λ z. h.0.0.1 (inl z)) (λ z. h.0.0.0.1 (inr z)) (λ z. h.0.0.1 (inr z)) h.0.1 (λ z. h.1 (inr z)))
 
 pub returns-in-2 : goal.returns-in-2
 returns-in-2 c =
@@ -53,5 +53,5 @@ returns-in-2 c =
 pub returns-in-2-2 : goal.returns-in-2-2
 returns-in-2-2 c =
     let a = c.args in
-    let h = c.in_default-1.rest in
-    rw (left-width a.set.now a.node a.first a.second c.if-kind-lt5.false c.if-kind-lt10.true (λ z. h.0.0.0.1 (inl z))) (within_cap a.first 33 c.requires.0)
+    let h = c.in-2.in_default-own.rest in
+    rw (left-width a.set.now a.node a.first a.second (omega arith) (omega arith) (λ z. h.0.0.0.1 (inl z))) (within_cap a.first 33 c.requires.0)

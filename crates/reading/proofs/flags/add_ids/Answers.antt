@@ -6,6 +6,7 @@ use mathlib.Core.Logic.{⊎_elim}
 use lib.ListN.{length, length-set}
 use Rattle.reading.proofs.IdLaws.{member-upward, flag-set, flag_above}
 use Rattle.reading.proofs.flags.add_ids.Goals as goal
+use Rattle.reading.proofs.flags.add_ids.Goals.{then-id-lt256, else-id-lt256}
 
 pub loop-k-init : goal.loop-k-init
 loop-k-init c = (omega arith, search rules, λ ids f. f)
@@ -15,11 +16,14 @@ loop-k-preserved c =
     let a = c.args in
     let l = c.loop-k in (
       omega arith,
-      ⊎_elim (λ w. ap length w.1 ∙ (length-set l.marks (a.first + l.k) 1 ∙ l.invariant.1)) (λ w. ap length w.1 ∙ l.invariant.1) c.if-id-lt256.branch,
-      λ ids f. ⊎_elim
-          (λ w. rw w.1 (flag-set (l.invariant.2 ids f) (a.first + l.k) (omega arith) (λ j. member-upward j l.k a.first ids)))
-          (λ w. rw w.1 (flag_above (l.invariant.2 ids f) (a.first + l.k) (omega arith) (λ j. member-upward j l.k a.first ids)))
-          c.if-id-lt256.branch,
+      elim c.if-id-lt256.branch [
+        | then-id-lt256 w ↦ ap length w.marks-is ∙ (length-set l.marks (a.first + l.k) 1 ∙ l.invariant.1)
+        | else-id-lt256 w ↦ ap length w.marks-is ∙ l.invariant.1
+      ],
+      λ ids f. elim c.if-id-lt256.branch [
+        | then-id-lt256 w ↦ rw w.marks-is (flag-set (l.invariant.2 ids f) (a.first + l.k) (omega arith) (λ j. member-upward j l.k a.first ids))
+        | else-id-lt256 w ↦ rw w.marks-is (flag_above (l.invariant.2 ids f) (a.first + l.k) (omega arith) (λ j. member-upward j l.k a.first ids))
+      ],
     )
 
 pub returns : goal.returns

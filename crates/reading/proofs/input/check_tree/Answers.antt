@@ -21,7 +21,7 @@ found-is : (c : After-tables_found) → c.tables_found.result ≡ all_below (nod
 found-is c = c.tables_found.ensures.decides (known_tables c.args.tables c.args.set.now) refl
 
 found_all : (c : Else-not-tables_found) → all_below (nodes_of c.args.plan.now) (λ i. found (known_tables c.args.tables c.args.set.now) (operator_at c.args.plan.now i)) ≡ true
-found_all c = sym (found-is (goal.at.ids_once-requires c).After-tables_found) ∙ c.if-not-tables_found.false
+found_all c = sym (c.tables_found.ensures.decides (known_tables c.args.tables c.args.set.now) refl) ∙ c.if-not-tables_found.false
 
 once-all : (c : Else-not-ids_once) → once (ids_of (tables_of c.args.set.now) c.args.plan.now (nodes_of c.args.plan.now) 0) ≡ true
 once-all c = sym c.ids_once.ensures ∙ c.if-not-ids_once.false
@@ -30,7 +30,7 @@ seen-is : (c : After-tree_seen) → c.tree_seen.result ≡ in_view (tables_of c.
 seen-is c = c.tree_seen.ensures.decides [] flags_none
 
 seen_all : (c : Else-not-tree_seen) → in_view (tables_of c.args.set.now) [] (plan_of c.args.plan.now) ≡ true
-seen_all c = sym (seen-is (goal.at.rows_narrow-requires c).After-tree_seen) ∙ c.if-not-tree_seen.false
+seen_all c = sym (c.tree_seen.ensures.decides [] flags_none) ∙ c.if-not-tree_seen.false
 
 narrow-all : (c : Else-not-rows_narrow) → all_below (nodes_of c.args.plan.now) (λ i. narrow (tables_of c.args.set.now) (plan_at c.args.plan.now i)) ≡ true
 narrow-all c = sym c.rows_narrow.ensures ∙ c.if-not-rows_narrow.false

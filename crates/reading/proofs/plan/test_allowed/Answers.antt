@@ -6,17 +6,17 @@ use Rattle.reading.specs.Bytes.{byte_at}
 use Rattle.reading.specs.Versions.{test_size}
 use Rattle.reading.specs.Plan.{test_row, limited, test_limits}
 use Rattle.reading.proofs.plan.test_allowed.Goals as goal
-use Rattle.reading.proofs.plan.test_allowed.Goals.{After-bytes_within, Joined-has-eq0}
-
-row_is : (c : Joined-has-eq0) → c.if-has-eq0.row ≡ test_row c.args.has (byte_at c.args.node.now 16)
-row_is c =
-    ⊎_elim (λ w. rw (eq-eqb _ _ w.0.taken) w.1) (λ w. rw (ne_eqb _ _ w.0.left, ← c.byte_at-form.ensures) w.1) c.if-has-eq0.branch
+use Rattle.reading.proofs.plan.test_allowed.Goals.{After-bytes_within, then-has-eq0, else-has-eq0}
 
 ranged : (c : After-bytes_within)
     → let a = c.args in
     c.bytes_within.result ≡ limited (test_size a.version) (drop 16 a.node.now) (drop (test_row a.has (byte_at a.node.now 16)) test_limits)
 ranged c =
-    c.bytes_within.ensures ∙ rw (c.tail-2.ensures, row_is (goal.at.None c).Joined-has-eq0, c.tail.ensures, c.node_size-size.ensures.value)
+    let row : c.if-has-eq0.row ≡ test_row c.args.has (byte_at c.args.node.now 16) = elim c.if-has-eq0.branch [
+      | then-has-eq0 w ↦ rw (eq-eqb _ _ w.if-has-eq0.true) w.row-is
+      | else-has-eq0 w ↦ rw (ne_eqb _ _ w.if-has-eq0.false, ← c.byte_at-form.ensures) w.row-is
+    ] in
+    c.bytes_within.ensures ∙ rw (c.tail-2.ensures, row, c.tail.ensures, c.node_size-size.ensures.value)
 
 pub returns-then-not-bytes_within : goal.returns-then-not-bytes_within
 returns-then-not-bytes_within c = rw (sym (ranged (goal.at.returns-then-not-bytes_within c).After-bytes_within) ∙ c.if-not-bytes_within.true)

@@ -12,23 +12,23 @@ use Rattle.reading.proofs.Laws.{rest-is, cells_are_lem, read_short, read-mark, r
 use Rattle.reading.proofs.set.read_table.Goals as goal
 use Rattle.reading.proofs.set.read_table.Goals.{After-starts_with, After-table-1, Else-not-size_allowed, Else-not-starts_with, Else-table-lt8, Else-table-size}
 
-abbrev table : (c : After-table-1) → List ℕ
-table c = let a = c.args in take (length a.set.now - a.at) (drop a.at a.set.now)
+abbrev table : List ℕ → ℕ → List ℕ
+table set at = take (length set - at) (drop at set)
 
-long : (c : Else-table-lt8) → 8 ≤ length (table (goal.at.table_mark-mark-requires c).After-table-1)
+long : (c : Else-table-lt8) → 8 ≤ length (table c.args.set.now c.args.at)
 long c = omega arith
 
 marked-is : (c : After-starts_with)
-    → c.starts_with.result ≡ starts_with (table_mark c.args.version) (table (goal.at.None c).After-table-1)
-marked-is c = c.starts_with.ensures ∙ ap (λ (m : List ℕ). starts_with m (table (goal.at.None c).After-table-1)) c.table_mark-mark.ensures
+    → c.starts_with.result ≡ starts_with (table_mark c.args.version) (table c.args.set.now c.args.at)
+marked-is c = c.starts_with.ensures ∙ ap (λ (m : List ℕ). starts_with m (table c.args.set.now c.args.at)) c.table_mark-mark.ensures
 
-marked : (c : Else-not-starts_with) → starts_with (table_mark c.args.version) (table (goal.at.size_allowed-requires c).After-table-1) ≡ true
-marked c = sym (marked-is (goal.at.size_allowed-requires c).After-starts_with) ∙ c.if-not-starts_with.false
+marked : (c : Else-not-starts_with) → starts_with (table_mark c.args.version) (table c.args.set.now c.args.at) ≡ true
+marked c = sym (c.starts_with.ensures ∙ ap (λ (m : List ℕ). starts_with m (table c.args.set.now c.args.at)) c.table_mark-mark.ensures) ∙ c.if-not-starts_with.false
 
-sized : (c : Else-not-size_allowed) → size_allowed (table (goal.at.cell_bytes-size-requires c).After-table-1) ≡ true
+sized : (c : Else-not-size_allowed) → size_allowed (table c.args.set.now c.args.at) ≡ true
 sized c = sym c.size_allowed.ensures ∙ c.if-not-size_allowed.false
 
-fitting : (c : Else-table-size) → 8 + cell_bytes (table (goal.at.overflow_add-a c).After-table-1) ≤ length (table (goal.at.overflow_add-a c).After-table-1)
+fitting : (c : Else-table-size) → 8 + cell_bytes (table c.args.set.now c.args.at) ≤ length (table c.args.set.now c.args.at)
 fitting c = omega (arith, c.cell_bytes-size.ensures.value)
 
 pub returns-then-table-lt8 : goal.returns-then-table-lt8
