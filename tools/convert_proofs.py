@@ -31,8 +31,8 @@ def fnsigs():
                         cur+=ch
                 muts=[p.split(':')[0].replace('mut ','').strip() for p in params if re.match(r"&('\w+ )?mut ",p.split(':',1)[1].strip())]
                 names=[p.split(':')[0].replace('mut ','').strip() for p in params]
-                req=re.findall(r"^\s+requires\s*(\w*)\s*\{",m[3],re.M)
-                ens=re.findall(r"^\s+ensures\s*(\w*)\s*\{",m[3],re.M)
+                req=re.findall(r"^\s*requires\s*(\w*)\s*\{",m[3],re.M)
+                ens=re.findall(r"^\s*ensures\s*(\w*)\s*\{",m[3],re.M)
                 S['::'.join(mod+[m[1]])]=dict(muts=muts,params=names,req=req,ens=ens)
     return S
 SIG=fnsigs()
@@ -60,6 +60,66 @@ class Places:
             if i is None: return out
             out.append(i); name=s.e['places'][i][1]
         return out
+def clause_path(names,rest):
+    """a path into nested pairs, as '.1.0.2', turned to the clause's name"""
+    if len(names)<2: return rest
+    r=rest;k=0
+    while k<len(names)-1:
+        if re.match(r"\.0(?!\d)",r): return '.'+names[k]+r[2:]
+        if re.match(r"\.1(?!\d)",r): k+=1; r=r[2:]
+        else: break
+    else:
+        return '.'+names[k]+r
+    if k>0: return '#TAIL%d'%k+rest
+    return rest
+def split_tail(b):
+    """the lets of a body, and what follows them"""
+    i=0;n=len(b)
+    while True:
+        m=re.compile(r"\s*let\b").match(b,i)
+        if not m: return b[:i],b[i:]
+        j=m.end();d=0;lets=1
+        while j<n:
+            ch=b[j]
+            if ch in'([{': d+=1
+            elif ch in')]}': d-=1
+            elif d==0 and re.compile(r"(?<![\w-])let(?![\w-])").match(b,j) : lets+=1
+            elif d==0 and re.compile(r"(?<![\w-])in(?![\w-])").match(b,j) and not re.match(r"[\w.-]",b[j-1]):
+                lets-=1
+                if lets==0: j+=2; break
+            j+=1
+        else: return b[:i],b[i:]
+        i=j
+def as_record(b,fields):
+    pre,tail=split_tail(b)
+    e=tail.strip()
+    def parts_of(x,n):
+        x=x.strip()
+        if n==1: return [x]
+        if not(x.startswith('(') and x.endswith(')')): return None
+        d=0;cut=None
+        inner=x[1:-1]
+        ps=[];cur=''
+        for ch in inner:
+            if ch==',' and d==0: ps.append(cur); cur=''
+            else:
+                d+=ch in'([{'; d-=ch in')]}'
+                if d<0: return None
+                cur+=ch
+        if cur.strip(): ps.append(cur)
+        if len(ps)!=2: return None
+        r=parts_of(ps[1],n-1)
+        return None if r is None else [ps[0].strip()]+r
+    ps=parts_of(e,len(fields))
+    if ps is None:
+        w=re.match(r"[\w-]+",e)
+        if e.startswith(('omega','search','grind')): ps=[e]*len(fields)
+        elif w and w[0] not in('rw','simp','cc','elim','λ') and not e.startswith('('):
+            ps=[]
+            for k in range(len(fields)): ps.append('('+' '.join(e.split())+')'+'.1'*k+('.0' if k<len(fields)-1 else ''))
+            ps=[re.sub(r"\)((?:\.1)*)$",r")\1",p) for p in ps]
+        else: return None
+    return pre+(' ' if not pre.endswith('\n') and pre else ('\n    ' if '\n' in tail[:tail.find(e[0])] else ' '))+'record { '+'; '.join(f"{f} = {p}" for f,p in zip(fields,ps))+' }'
 def tail_tuple(body):
     """index range of a tuple at the end of a body"""
     b=body.rstrip()
@@ -129,17 +189,16 @@ def convert(path,rel):
             # kind: ('step',placeindex) / ('requires',) ; rest: '.ensures.0.1' etc
             if kind[0]=='req':
                 names=sig['req'] if sig else []
-                if len(names)>1:
-                    m=re.match(r"\.(\d+)(.*)",rest)
-                    if m and int(m[1])<len(names): return '.'+names[int(m[1])]+m[2]
-                return rest
+                return clause_path(names,rest)
+            if kind[0]=='recreq':
+                names=sig['req'] if sig else []
+                if re.match(r"\.0(?!\d)",rest): return 'DECREASES'+rest[2:]
+                if re.match(r"\.1(?!\d)",rest): return clause_path(names,rest[2:])
+                log.append(f"{rel}: requires{rest} in a recursion"); return rest
             if kind[0]=='ens':
                 cl=e['clauses'][kind[2]]
                 fs=cl['fields'] if cl else []
-                if len(fs)>1:
-                    m=re.match(r"\.(\d+)(.*)",rest)
-                    if m and int(m[1])<len(fs): return '.'+fs[int(m[1])]+m[2]
-                return rest
+                return clause_path(fs,rest)
             if kind[0]=='new':
                 cs=SIG.get(kind[1]) if kind[1] else None
                 m=re.match(r"((?:\.1)*)\.0(?!\d)(.*)",rest)
@@ -148,14 +207,23 @@ def convert(path,rel):
                 return rest
             if kind[0]=='step':
                 callee=kind[1]
-                m=re.match(r"\.(ensures|new|entry)(.*)",rest)
+                m=re.match(r"\.(ensures|new|entry|auto)(.*)",rest)
+                if m and m[1]=='auto':
+                    cs=SIG.get(callee) if callee else None
+                    m2=re.match(r"((?:\.1)*)\.0(?!\d)(.*)",m[2])
+                    if cs and m2:
+                        kk_=m2[1].count('.1')
+                        ps_=cs['params']
+                        nm=ps_[kk_] if kk_<len(ps_) and ps_[kk_] in cs['muts'] else (cs['muts'][kk_] if kk_<len(cs['muts']) else None)
+                        if nm: return '.auto.'+nm+m2[2]
+                    return rest
                 if m and m[1]=='ensures': return '.ensures'+fix_rest(('ens',callee,kind[2]),m[2])
                 if m and m[1]=='new': return '.new'+fix_rest(('new',callee),m[2])
                 return rest
             return rest
         al=['c']
         while True:
-            m=re.search(r"let (\w+) = (?:"+'|'.join(al)+r")(?:\.before)+ in\s+",body)
+            m=re.search(r"let (\w+) = (?:"+'|'.join(al)+r")(?:\.before)*(?:\s+in\s+| in\s+)",body)
             if not m: break
             al.append(m[1]); body=body[:m.start()]+body[m.end():]
         TOK=re.compile(r"(?<![\w.'’-])(?:"+'|'.join(al)+r")((?:\.before)*)((?:\.[\w'+-]+)*)(?![\w'-])")
@@ -168,12 +236,14 @@ def convert(path,rel):
             fs=re.match(r"\.([\w'+-]+)(.*)",rest)
             f,tail=fs[1],fs[2]
             if f in('args','requires','ranges','type_inv'):
-                if f=='requires': return 'c.requires'+fix_rest(('req',),tail),('req',) if not tail else None
+                if f=='requires':
+                    if rec: return ('c.requires'+fix_rest(('recreq',),tail)).replace('requiresDECREASES','decreases'),('recreq',) if not tail else None
+                    return 'c.requires'+fix_rest(('req',),tail),('req',) if not tail else None
                 r='.'+f+tail
                 for a,b in P.args:
                     if r==a or r.startswith(a+'.'): r=b+r[len(a):]
                 return 'c'+r,('args',) if f=='args' and not tail else None
-            if f=='well-formed' or f=='well_formed': return 'c.type_inv'+tail,None
+            if f=='well-formed' or f=='well_formed': return 'c.well_formed'+tail,None
             for ci in chain:
                 arm=e['arms'][ci]
                 if not arm: continue
@@ -210,6 +280,7 @@ def convert(path,rel):
             else: kk=None
             return 'c.'+n+fix_rest(k,tail),kk
         varkind={}
+        lets={}
         i=0
         # sequential so that let-bound variables are known
         LET=re.compile(r"let ([\w'₀-₉ᵢ]+)(?: : [^=]*?)? = $")
@@ -230,12 +301,30 @@ def convert(path,rel):
                         else:
                             nn=P.newname[ii]; used_places.add(nn)
                             if start and N(start)==N(pl) and goal.startswith('helper:'): res+='c'
+                            elif goal.startswith('helper:'):
+                                # a helper that cites another: what that says is a let of its own here
+                                g2=next(x for x in groups if x['name']==hn)
+                                sg=g2['sig']
+                                if '(c : ' not in sg: sg=re.sub(r" : (?:tie|lts)\."+re.escape(pl)+r"(?: invariant-\S+)*(?: decreases-\S+)*",f" : (c : x)",sg,count=1)
+                                at=sg.index('(c : '); dd=0
+                                for j in range(at,len(sg)):
+                                    dd+=sg[j]=='('; dd-=sg[j]==')'
+                                    if dd==0: break
+                                ty=trans(re.sub(r"^\s*→\s*","",sg[j+1:]),start,goal).strip()
+                                if len(g2['eqs'])!=1 or g2['unf']: log.append(f"{rel}/{goal}: helper {hn} in a helper has {len(g2['eqs'])} equations {g2['unf']}")
+                                hd,b2=re.split(r" =(?=\s)",g2['eqs'][0],maxsplit=1)
+                                extra=[x for x in hd.split()[1:] if x not in('c','κs')]
+                                b2=trans(b2,start,goal).strip()
+                                lam=''.join(f"λ {x}. " for x in extra)
+                                here='here-'+hn
+                                if here not in lets: lets[here]=f"let {here} : {ty} = {lam}{b2} in"
+                                # replace the helper's name and what stands between by the let's name
+                                k=res.rstrip().rfind(hn)
+                                res=res[:k]+here+(res[k+len(hn):].rstrip())
+                                if res.endswith('('): res=res[:-1]; i=m.end()+ (1 if body[m.end():m.end()+1]==')' else 0); continue
+                                i=m.end(); continue
                             else:
-                                gg=goal
-                                if goal.startswith('helper:'):
-                                    gg=next((e['needs'][q][1] for q,x in enumerate(e['asked_at']) if N(x[0])==N(start)),None)
-                                    if gg is None: log.append(f"{rel}/{goal}: no goal at {start}")
-                                res+=f"(goal.at.{gg} c).{nn}"
+                                res+=f"(goal.at.{goal} c).{nn}"
                     else:
                         if m[1]: log.append(f"{rel}/{goal}: bare {m[0]}")
                         res+=m[0]
@@ -258,6 +347,10 @@ def convert(path,rel):
                 i=m.end(); continue
             res+=body[i]; i+=1
         res=re.sub(r"not-(?:true|false) _ (c\.if-not-[\w-]+)\.(true|false)-raw",r"\1.\2",res)
+        if lets:
+            lead=re.match(r"\s*",res)[0]
+            sep='\n    ' if '\n' in lead or len(res)>60 else ' '
+            res=(lead if '\n' in lead else '\n    ')+'\n    '.join(lets.values())+'\n    '+res.lstrip()
         return res
     inv_out=[];ans_out=[];plain=[]
     loopvars={}
@@ -322,10 +415,8 @@ def convert(path,rel):
                     for kk in(e['needs'][ix][0],e['needs'][ix][1]):
                         if kk in e['asked']: fields=e['asked'][kk]
                 if fields and len(fields)>1 and b.strip()!='search rules':
-                    tt_=tail_tuple(tb)
-                    if tt_ and len(tt_[1])==len(fields):
-                        i,ps=tt_
-                        tb=tb.rstrip()[:i]+'record { '+'; '.join(f"{f} = {p}" for f,p in zip(fields,ps))+' }'
+                    rec_=as_record(tb,fields)
+                    if rec_ is not None: tb=rec_
                     else: log.append(f"{rel}/{new}: clauses {fields} but no tuple: {tb.strip()[-80:]}")
                 eqs.append(f"{new} {' '.join(hs)} ={tb}")
             if skip: continue

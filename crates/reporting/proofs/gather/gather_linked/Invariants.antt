@@ -1,0 +1,14 @@
+use Prim.Native.Nat.{suc, ◌-◌}
+use lib.ListN.{length, drop}
+use Rattle.reporting.specs.Index.{chain}
+use Rattle.reporting.specs.Rows.{rows_from}
+use Rattle.reporting.proofs.Chains.{Walk}
+use Rattle.reporting.proofs.Meets.{on_chain}
+use Rattle.reporting.proofs.Tallies.{Tallying}
+use Rattle.reporting.proofs.gather.gather_linked.Given as goal
+
+abbrev pub invariant-loop-h : goal.invariant-loop-h
+invariant-loop-h l = Walk l.k l.next l.h × Tallying l.found (drop l.src l.cells) (rows_from l.behind l.k l.v l.cells) (on_chain l.k (rows_from l.behind l.k l.v l.cells) l.next l.h) l.tally
+
+abbrev pub decreases-loop-h : goal.decreases-loop-h
+decreases-loop-h l = length (chain (suc l.k) l.next l.h)

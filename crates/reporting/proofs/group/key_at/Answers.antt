@@ -1,0 +1,18 @@
+use mathlib.Core.Path.{subst}
+use mathlib.Core.Bool.{false≢true}
+use borrow.Author.Tests.{eqb-true}
+use Rattle.reporting.specs.Sides.{Equals, PlacesFor}
+use Rattle.reporting.proofs.group.key_at.Goals as goal
+
+pub returns-then-left-ne0 : goal.returns-then-left-ne0
+returns-then-left-ne0 c = λ e. absurd (false≢true e)
+
+pub returns-else-left-ne0 : goal.returns-else-left-ne0
+returns-else-left-ne0 c = λ e.
+    let a = c.args in
+    let p = c.left-1.given in
+    let at : Equals p.0.0 p.0.1.0 a.keys = subst (PlacesFor a.keys) p.1 c.key_places.ensures in
+    rw (← c.if-left-ne0.false, ← eqb-true p.0.1.0 a.place e) at
+
+pub returns-in-Other : goal.returns-in-Other
+returns-in-Other c = λ e. absurd (false≢true e)

@@ -1,0 +1,28 @@
+use Prim.Native.Nat.{ℕ, ◌/◌, ◌≤◌, ◌<◌}
+use mathlib.Core.Logic.{⊎_elim}
+use native.Mathlib.Omega.{arith}
+use lib.ListN.{length}
+use Rattle.reporting.proofs.TableRows.{cells_blanks}
+use Rattle.reporting.proofs.leaf.cells_in.Goals as goal
+use Rattle.reporting.proofs.leaf.cells_in.Goals.{Joined-n-whole}
+
+few : (c : Joined-n-whole) → (c.if-n-whole.whole ≤ c.args.n) × (c.if-n-whole.whole ≤ length c.args.from.now / 8)
+    × ((j : ℕ) → c.if-n-whole.whole ≤ j → j < c.args.n → length c.args.from.now / 8 ≤ j)
+few c =
+    ⊎_elim
+    (λ e. (omega arith, omega arith, λ j a b. omega arith))
+    (λ e. (omega arith, omega arith, λ j a b. omega arith)) c.if-n-whole.branch
+
+pub words_in-requires : goal.words_in-requires
+words_in-requires c = (omega (arith, (few (goal.at.words_in-requires c).Joined-n-whole).0), (few (goal.at.words_in-requires c).Joined-n-whole).1)
+
+pub overflow_sub-n : goal.overflow_sub-n
+overflow_sub-n c = (few (goal.at.overflow_sub-n c).Joined-n-whole).0
+
+pub blanks-requires : goal.blanks-requires
+blanks-requires c = omega (arith, (few (goal.at.blanks-requires c).Joined-n-whole).0)
+
+pub returns : goal.returns
+returns c =
+    let f = few (goal.at.returns c).Joined-n-whole in
+    cells_blanks c.args.from.now _ _ _ _ c.words_in.ensures c.blanks.ensures f.0 f.2

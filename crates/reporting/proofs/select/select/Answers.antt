@@ -1,0 +1,70 @@
+use mathlib.Core.List.{List, [], ◌∷◌}
+use mathlib.Core.Path.{◌≡◌, refl, sym, ap, ◌∙◌, fun_ext}
+use mathlib.Core.Bool.{Bool, cond}
+use mathlib.Core.Logic.{⊎_elim}
+use Prim.Native.Nat.{◌+◌, ◌-◌, ◌≤◌}
+use native.Mathlib.Omega.{arith}
+use lib.ListN.{length, take, drop, length-drop}
+use Rattle.algebra.specs.Lists.{filter}
+use Rattle.algebra.specs.Plans.{Row}
+use Rattle.reporting.specs.Rows.{chunk}
+use Rattle.reporting.specs.Sides.{condition_holds, ConditionInside}
+use Rattle.reporting.proofs.Sides.{condition_wider, condition_left, condition_right}
+use Rattle.reporting.proofs.Copies.{written_copy}
+use Rattle.reporting.proofs.Building.{kept, filter-kept, building_start, building_row, kept-below, kept-turn, skipped_turn, kept-done}
+use Rattle.reporting.proofs.select.select.Goals as goal
+use Rattle.reporting.proofs.select.select.Goals.{In-loop-i}
+
+in_row : (c : In-loop-i) → (c.loop-i.src + length c.args.ids.now ≤ length c.loop-i.cells) × (c.loop-i.dst ≤ c.loop-i.src)
+in_row c = let p = c.loop-i.invariant.0 in omega (arith, building_row p c.loop-i-test.true, kept-below p, c.requires)
+
+pub loop-i-init : goal.loop-i-init
+loop-i-init c =
+    let a = c.args in
+    let p = condition_holds c.find_test-test.result [] in
+    (building_start a.cells.now (sym (filter-kept p (chunk a.m (length a.ids.now) (drop a.own a.cells.now)))), refl)
+
+pub condition_holds-requires : goal.condition_holds-requires
+condition_holds-requires c =
+    let a = c.args in
+    condition_wider c.find_test-test.result 0 (length a.ids.now) (length c.loop-i.cells - 0) (length c.loop-i.cells - c.loop-i.src) c.find_test-test.ensures.inside (omega arith) (omega (arith, in_row (goal.at.condition_holds-requires c).In-loop-i))
+
+pub copy_row-requires : goal.copy_row-requires
+copy_row-requires c = record { dst_le_src = omega (arith, in_row (goal.at.copy_row-requires c).In-loop-i); w_in_bounds = omega (arith, in_row (goal.at.copy_row-requires c).In-loop-i) }
+
+pub overflow_add-out : goal.overflow_add-out
+overflow_add-out c = omega (arith, c.before.before.before.before.before.before.before, c.loop-i.invariant.0.few)
+
+pub overflow_add-dst : goal.overflow_add-dst
+overflow_add-dst c = omega (arith, (in_row (goal.at.overflow_add-dst c).In-loop-i).0, (in_row (goal.at.overflow_add-dst c).In-loop-i).1, (goal.at.overflow_add-dst c).In-loop-i)
+
+pub overflow_add-src : goal.overflow_add-src
+overflow_add-src c = omega (arith, (in_row (goal.at.overflow_add-src c).In-loop-i).0)
+
+pub loop-i-preserved : goal.loop-i-preserved
+loop-i-preserved c =
+    let a = c.args in
+    let l = c.loop-i in
+    let w = length a.ids.now in
+    let test = c.find_test-test.result in
+    let row : Row = take w (drop l.src l.cells) in
+    let inside : ConditionInside test 0 w = c.find_test-test.ensures.inside in
+    let met = condition_right 0 w [] (drop l.src l.cells) test inside ∙ condition_left 0 w (drop 0 l.cells) (drop l.src l.cells) test inside ∙ sym c.condition_holds.ensures in
+    let p = l.invariant.0 in
+    let h = c.loop-i-test.true in
+    let (within, below) = in_row (goal.at.loop-i-preserved c).In-loop-i in
+    let long : length (drop l.src l.cells) ≡ length l.cells - l.src = length-drop l.src l.cells in
+    ⊎_elim
+    (λ v. (kept-turn p h row c.if-condition_holds.cells c.if-condition_holds.out c.if-condition_holds.dst (ap (λ b. cond b (row ∷ []) []) (met ∙ v.0.taken)) (written_copy l.cells c.if-condition_holds.cells (drop l.src l.cells) l.dst w (v.5 ∙ v.2.ensures) (omega arith) (omega arith)) (omega arith) v.6 v.7, ap length v.5 ∙ v.2.kept.0 ∙ l.invariant.1))
+    (λ v. (skipped_turn p h c.if-condition_holds.cells c.if-condition_holds.out c.if-condition_holds.dst (ap (λ b. cond b (row ∷ []) []) (met ∙ v.0.left)) v.1 v.2 v.3, ap length v.1 ∙ l.invariant.1))
+    c.if-condition_holds.branch
+
+pub shape_of-cells : goal.shape_of-cells
+shape_of-cells c = c.loop-i.invariant.1
+
+pub returns : goal.returns
+returns c =
+    let a = c.args in
+    let rows : List Row = chunk a.m (length a.ids.now) (drop a.own a.cells.now) in
+    let g = kept-done c.loop-i.invariant.0 c.loop-i-test.false in
+    record { is = g.is ∙ ap (λ (p : Row → Bool). filter p rows) (fun_ext (λ q. c.find_test-test.ensures.same [] q)); few = g.few }
