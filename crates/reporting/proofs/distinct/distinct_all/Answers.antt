@@ -1,6 +1,5 @@
 use mathlib.Core.Path.{refl, sym, ◌∙◌}
 use mathlib.Core.List.{List}
-use mathlib.Core.Logic.{⊎_elim}
 use Prim.Native.Nat.{◌+◌, ◌*◌, ◌-◌, ◌≤◌}
 use native.Mathlib.Omega.{arith}
 use lib.ListN.{length}
@@ -11,6 +10,7 @@ use Rattle.reporting.specs.Rows.{chunk}
 use Rattle.reporting.proofs.Chunks.{turns, mono}
 use Rattle.reporting.proofs.Firsts.{sifting_start, sifting_done, sifting_seen, sifting_new}
 use Rattle.reporting.proofs.distinct.distinct_all.Goals as goal
+use Rattle.reporting.proofs.distinct.distinct_all.Goals.{then-not-seen, else-not-seen}
 use Rattle.reporting.proofs.distinct.distinct_all.Goals.{In-loop-i}
 
 in_row : (c : In-loop-i) → (c.loop-i.src + c.args.w ≤ length c.loop-i.cells) × (c.loop-i.dst ≤ c.loop-i.src) × ((c.loop-i.out * c.args.w ≤ length c.loop-i.cells) × (c.loop-i.src + c.args.w ≤ length c.loop-i.cells))
@@ -37,13 +37,13 @@ pub overflow_add-dst : goal.overflow_add-dst
 overflow_add-dst c = omega (arith, (in_row (goal.at.overflow_add-dst c).In-loop-i).0, (in_row (goal.at.overflow_add-dst c).In-loop-i).1, (goal.at.overflow_add-dst c).In-loop-i, c.well_formed)
 
 pub overflow_add-i : goal.overflow_add-i
-overflow_add-i c = omega (arith, c.before.before.before)
+overflow_add-i c = omega arith
 
 pub overflow_add-src : goal.overflow_add-src
 overflow_add-src c = omega (arith, (in_row (goal.at.overflow_add-src c).In-loop-i).0, (in_row (goal.at.overflow_add-src c).In-loop-i).1, (goal.at.overflow_add-src c).In-loop-i, c.well_formed)
 
 pub loop-i-smaller : goal.loop-i-smaller
-loop-i-smaller c = omega (arith, c.before.before.before)
+loop-i-smaller c = omega arith
 
 pub loop-i-preserved : goal.loop-i-preserved
 loop-i-preserved c =
@@ -54,10 +54,10 @@ loop-i-preserved c =
     let len = l.invariant.long in
     let r = c.seen.result in
     let says = c.seen.ensures in
-    ⊎_elim
-    (λ v. sifting_new all a.m a.w a.cells.now l.cells c.if-not-seen.cells l.i l.out c.if-not-seen.out l.src l.dst c.if-not-seen.dst l.invariant c.loop-i-test.true (sym says ∙ not-true r v.0.taken) (omega arith) (v.5 ∙ v.2.ensures) v.6 v.7)
-    (λ v. sifting_seen all a.m a.w a.cells.now l.cells c.if-not-seen.cells l.i l.out c.if-not-seen.out l.src l.dst c.if-not-seen.dst l.invariant c.loop-i-test.true (sym says ∙ not-false r v.0.left) v.1 v.2 v.3)
-    c.if-not-seen.branch
+    elim c.if-not-seen.branch [
+      | then-not-seen v ↦ sifting_new all a.m a.w a.cells.now l.cells c.if-not-seen.cells l.i l.out c.if-not-seen.out l.src l.dst c.if-not-seen.dst l.invariant c.loop-i-test.true (sym says ∙ v.if-not-seen.true) (omega arith) (v.cells-is ∙ v.copy_row.ensures) v.out-is v.dst-is
+      | else-not-seen v ↦ sifting_seen all a.m a.w a.cells.now l.cells c.if-not-seen.cells l.i l.out c.if-not-seen.out l.src l.dst c.if-not-seen.dst l.invariant c.loop-i-test.true (sym says ∙ v.if-not-seen.false) v.cells-is v.out-is v.dst-is
+    ]
 
 pub shape_of-cells : goal.shape_of-cells
 shape_of-cells c = c.loop-i.invariant.long

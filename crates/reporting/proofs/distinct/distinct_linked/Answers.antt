@@ -1,6 +1,5 @@
 use mathlib.Core.Path.{◌≡◌, refl, sym, ap, ◌∙◌}
 use mathlib.Core.List.{List}
-use mathlib.Core.Logic.{⊎_elim}
 use Prim.Native.Nat.{◌+◌, ◌*◌, ◌-◌, ◌≤◌, ◌<◌}
 use native.Mathlib.Omega.{arith}
 use borrow.Author.Tests.{not-true, not-false}
@@ -13,6 +12,7 @@ use Rattle.reporting.proofs.Chunks.{turns, mono, part-row}
 use Rattle.reporting.proofs.Firsts.{sifting_start, sifting_done, sifting_seen, sifting_new, index_start, index_kept}
 use Rattle.reporting.proofs.Chains.{heads_length}
 use Rattle.reporting.proofs.distinct.distinct_linked.Goals as goal
+use Rattle.reporting.proofs.distinct.distinct_linked.Goals.{then-not-seen_linked, else-not-seen_linked}
 use Rattle.reporting.proofs.distinct.distinct_linked.Goals.{After-hash_row-b, In-loop-i}
 
 in_row : (c : In-loop-i) → (c.loop-i.src + c.args.w ≤ length c.loop-i.cells) × (c.loop-i.dst ≤ c.loop-i.src) × (c.loop-i.out * c.args.w ≤ length c.loop-i.cells) × (c.loop-i.out < c.args.m)
@@ -90,20 +90,20 @@ loop-i-preserved c =
     let wide : b < length l.heads = omega (arith, l.invariant.1, c.hash_row-b.ensures.0, c.requires.heads_value) in
     let room : l.out < length l.next = omega (arith, row.3, l.invariant.2, c.requires.heads_value) in
     let len : a.m * a.w ≤ length l.cells = omega (arith, p.long, c.requires.m_bound) in
-    ⊎_elim
-    (λ v. (
-      sifting_new all a.m a.w a.cells.now l.cells j.cells l.i l.out j.out l.src l.dst j.dst p t (sym says ∙ not-true r v.0.taken) len (v.12 ∙ v.2.ensures) v.15 v.16,
-      ap length v.13 ∙ v.7.kept.0 ∙ l.invariant.1,
-      ap length v.14 ∙ v.7.kept.1.0 ∙ l.invariant.2,
-      rw v.15 (index_kept row_slot a.w l.out l.src l.dst b l.cells j.cells l.heads j.heads l.next j.next p.dst-at row.1 row.0 (v.12 ∙ v.2.ensures) (at (goal.at.loop-i-preserved c).After-hash_row-b) wide room (v.13 ∙ v.7.ensures.0) (v.14 ∙ v.7.ensures.1) l.invariant.3),
-    ))
-    (λ v. (
-      sifting_seen all a.m a.w a.cells.now l.cells j.cells l.i l.out j.out l.src l.dst j.dst p t (sym says ∙ not-false r v.0.left) v.1 v.4 v.5,
-      ap length v.2 ∙ l.invariant.1,
-      ap length v.3 ∙ l.invariant.2,
-      rw (v.1, v.2, v.3, v.4) l.invariant.3,
-    ))
-    j.branch
+    elim j.branch [
+      | then-not-seen_linked v ↦ (
+        sifting_new all a.m a.w a.cells.now l.cells j.cells l.i l.out j.out l.src l.dst j.dst p t (sym says ∙ v.if-not-seen_linked.true) len (v.cells-is ∙ v.copy_row.ensures) v.out-is v.dst-is,
+        ap length v.heads-is ∙ v.link.auto.heads ∙ l.invariant.1,
+        ap length v.next-is ∙ v.link.auto.next ∙ l.invariant.2,
+        rw v.out-is (index_kept row_slot a.w l.out l.src l.dst b l.cells j.cells l.heads j.heads l.next j.next p.dst-at row.1 row.0 (v.cells-is ∙ v.copy_row.ensures) (at (goal.at.loop-i-preserved c).After-hash_row-b) wide room (v.heads-is ∙ v.link.ensures.heads_after) (v.next-is ∙ v.link.ensures.next_after) l.invariant.3),
+      )
+      | else-not-seen_linked v ↦ (
+        sifting_seen all a.m a.w a.cells.now l.cells j.cells l.i l.out j.out l.src l.dst j.dst p t (sym says ∙ v.if-not-seen_linked.false) v.cells-is v.out-is v.dst-is,
+        ap length v.heads-is ∙ l.invariant.1,
+        ap length v.next-is ∙ l.invariant.2,
+        rw (v.cells-is, v.heads-is, v.next-is, v.out-is) l.invariant.3,
+      )
+    ]
 
 pub shape_of-cells : goal.shape_of-cells
 shape_of-cells c = c.loop-i.invariant.0.long

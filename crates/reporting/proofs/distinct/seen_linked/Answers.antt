@@ -33,7 +33,7 @@ row c =
     let here-inside : (c.loop-h.h - 1 < c.args.k) × ((c.loop-h.h - 1) * c.args.w + c.args.w ≤ length c.args.cells.now) = let here-linked : 0 < c.loop-h.h = omega (arith, c.loop-h-test.true) in
     let a = c.args in
     let l = c.loop-h in
-    let i : l.h - 1 < a.k = walk_inside a.k a.next.now l.h l.invariant.0 (here-linked ) in
+    let i : l.h - 1 < a.k = walk_inside a.k a.next.now l.h l.invariant.0 (here-linked) in
     (i, omega (arith, turns a.k a.w (l.h - 1) i, c.requires.w_in_bounds)) in
     let a = c.args in
     let l = c.loop-h in

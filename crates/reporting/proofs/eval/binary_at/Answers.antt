@@ -21,7 +21,11 @@ rows_of_each-requires c =
     let s = c.requires in
     let e = ids-part c.columns_into-w.result c.columns_into-w.new.ids c.columns_into-w.ensures.1 in
     let f = ids-part c.columns_into-v.result c.columns_into-v.new.ids c.columns_into-v.ensures.1 in
-    rw (e, f) ((s.sound_at.2, s.sound_at.3), ((sound-width s.sound_at.0, sound-width s.sound_at.1, s.k_bound.0, s.k_bound.1), (s.loop_room, s.k_bound.2)))
+    rw (e, f) (record {
+      node_value = (s.sound_at.2, s.sound_at.3);
+      ids_len_bound = (sound-width s.sound_at.0, sound-width s.sound_at.1, s.k_bound.0, s.k_bound.1);
+      loop_room = (s.loop_room, s.k_bound.2);
+    })
 
 pub returns : goal.returns
 returns c =

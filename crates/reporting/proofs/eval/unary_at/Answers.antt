@@ -13,7 +13,7 @@ pub act-requires : goal.act-requires
 act-requires c =
     let s = c.requires in
     let e = ids-part c.columns_into-w.result c.columns_into-w.new.ids c.columns_into-w.ensures.1 in
-    rw e ((s.sound_at.1, s.sound_at.2, s.sound_at.3, sound-width s.sound_at.0), s.unary_room)
+    rw e (record { node_value = (s.sound_at.1, s.sound_at.2, s.sound_at.3, sound-width s.sound_at.0); unary_room = s.unary_room })
 
 pub returns : goal.returns
 returns c =

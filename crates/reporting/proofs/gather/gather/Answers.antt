@@ -1,6 +1,5 @@
 use mathlib.Core.Path.{◌≡◌, sym, ap, ◌∙◌}
 use mathlib.Core.List.{List}
-use mathlib.Core.Logic.{⊎_elim}
 use Prim.Native.Nat.{ℕ, ◌+◌, ◌-◌, ◌≤◌}
 use native.Mathlib.Nat.{zero-mul}
 use native.Mathlib.Numerals.{add-one}
@@ -15,6 +14,7 @@ use Rattle.reporting.proofs.Sides.{side_wider, found_wider}
 use Rattle.reporting.proofs.Meets.{none_left_lem}
 use Rattle.reporting.proofs.Tallies.{tallying_start, tallying_few, tallying_done, tallying_room, tallying_met, tallying_not_met}
 use Rattle.reporting.proofs.gather.gather.Goals as goal
+use Rattle.reporting.proofs.gather.gather.Goals.{then-row_meets, else-row_meets}
 use Rattle.reporting.proofs.gather.gather.Goals.{In-loop-i}
 
 inside : (c : In-loop-i) → c.loop-i.at + c.args.v ≤ length c.args.cells.now
@@ -71,10 +71,10 @@ loop-i-preserved c =
     let t = c.if-row_meets.tally in (
       omega arith,
       rw (add-one, times_suc) (omega (arith, l.invariant.1)),
-      ⊎_elim
-          (λ x. tallying_met a.found left all rows l.tally l.invariant.2 (length cells - a.src) a.v c.requires.0 rest (drop l.at cells) first (says ∙ x.0.taken) t (x.3 ∙ x.2.ensures.0 ∙ ap (added l.tally) x.1.ensures) (rw x.3 x.2.ensures.1))
-          (λ x. tallying_not_met a.found left all rows l.tally l.invariant.2 (length cells - a.src) a.v c.requires.0 rest (drop l.at cells) first (says ∙ x.0.left) t x.1)
-          c.if-row_meets.branch,
+      elim c.if-row_meets.branch [
+        | then-row_meets x ↦ tallying_met a.found left all rows l.tally l.invariant.2 (length cells - a.src) a.v c.requires.0 rest (drop l.at cells) first (says ∙ x.if-row_meets.true) t (x.tally-is ∙ x.add-tally.ensures.0 ∙ ap (added l.tally) x.side_cell.ensures) (rw x.tally-is x.add-tally.ensures.1)
+        | else-row_meets x ↦ tallying_not_met a.found left all rows l.tally l.invariant.2 (length cells - a.src) a.v c.requires.0 rest (drop l.at cells) first (says ∙ x.if-row_meets.false) t x.tally-is
+      ],
     )
 
 pub result-requires : goal.result-requires

@@ -1,6 +1,5 @@
 use mathlib.Core.Path.{◌≡◌, refl, sym, ap, ◌∙◌}
 use mathlib.Core.List.{List, []}
-use mathlib.Core.Logic.{⊎_elim}
 use Prim.Native.Nat.{◌+◌, ◌*◌, ◌-◌, ◌≤◌, ◌<◌}
 use native.Mathlib.Omega.{arith}
 use borrow.Author.Tests.{not-true, not-false}
@@ -16,6 +15,7 @@ use Rattle.reporting.proofs.Meets.{cells-none, none_met, on_chain, chain_first, 
 use Rattle.reporting.proofs.Sides.{side_wider, found_wider}
 use Rattle.reporting.proofs.Tallies.{Tallying, tallying_start, tallying_few, tallying_done, tallying_room, tallying_met, tallying_not_met}
 use Rattle.reporting.proofs.gather.gather_linked.Goals as goal
+use Rattle.reporting.proofs.gather.gather_linked.Goals.{then-linked_meets, else-linked_meets}
 use Rattle.reporting.proofs.gather.gather_linked.Goals.{In-loop-h, Start, Then-not-is_number}
 
 key-inside : (c : Start) → c.args.src + c.args.left < length c.args.cells.now
@@ -148,10 +148,10 @@ loop-h-preserved c =
     let says = sym c.linked_meets.ensures in
     let t = c.if-linked_meets.tally in (
       walk-on a.k a.next.now l.h l.invariant.0 c.loop-h-test.true h c.wide-h-in-loop-h.ensures,
-      ⊎_elim
-          (λ x. tallying_met a.found left all rows l.tally l.invariant.1 (length cells - a.src) a.v c.requires.found_inside.0 rest row first (says ∙ x.0.taken) t (x.3 ∙ x.2.ensures.0 ∙ ap (added l.tally) x.1.ensures) (rw x.3 x.2.ensures.1))
-          (λ x. tallying_not_met a.found left all rows l.tally l.invariant.1 (length cells - a.src) a.v c.requires.found_inside.0 rest row first (says ∙ x.0.left) t x.1)
-          c.if-linked_meets.branch,
+      elim c.if-linked_meets.branch [
+        | then-linked_meets x ↦ tallying_met a.found left all rows l.tally l.invariant.1 (length cells - a.src) a.v c.requires.found_inside.0 rest row first (says ∙ x.if-linked_meets.true) t (x.tally-is ∙ x.add-tally.ensures.0 ∙ ap (added l.tally) x.side_cell.ensures) (rw x.tally-is x.add-tally.ensures.1)
+        | else-linked_meets x ↦ tallying_not_met a.found left all rows l.tally l.invariant.1 (length cells - a.src) a.v c.requires.found_inside.0 rest row first (says ∙ x.if-linked_meets.false) t x.tally-is
+      ],
     )
 
 pub result-requires-2 : goal.result-requires-2

@@ -1,6 +1,5 @@
 use mathlib.Core.Path.{◌≡◌, sym, ◌∙◌}
 use mathlib.Core.List.{List, []}
-use mathlib.Core.Logic.{⊎_elim}
 use Prim.Native.Nat.{ℕ, ◌+◌, ◌*◌, ◌-◌, ◌≤◌}
 use native.Mathlib.Omega.{arith}
 use lib.ListN.{length, drop, take}
@@ -10,6 +9,7 @@ use Rattle.reporting.proofs.Chunks.{turns}
 use Rattle.reporting.proofs.Groups.{grouping_start, grouping_done, grouping_seen, grouping_new}
 use Rattle.reporting.proofs.Sides.{side_wider, side_left, side_right}
 use Rattle.reporting.proofs.group.group_all.Goals as goal
+use Rattle.reporting.proofs.group.group_all.Goals.{then-not-key_given, else-not-key_given}
 use Rattle.reporting.proofs.group.group_all.Goals.{In-loop-i}
 
 in_row : (c : In-loop-i) → (c.loop-i.src + c.args.w ≤ length c.loop-i.cells) × (c.loop-i.out * 2 ≤ length c.loop-i.cells) × (c.loop-i.dst + 2 ≤ c.args.own)
@@ -64,10 +64,10 @@ loop-i-preserved c =
     ∙ sym (side_right 0 a.w [] (drop l.src l.cells) a.side c.requires.1) in
     let r = c.key_given.result in
     let says = c.key_given.ensures in
-    ⊎_elim
-    (λ v. grouping_new a.found (side_cell a.side []) a.m a.w a.own first l.cells j.cells l.i l.out j.out l.src l.dst j.dst l.invariant t key is_key (sym says ∙ not-true r v.0.taken) c.requires.3 (omega (arith, c.requires.4, l.invariant.long)) (v.5 ∙ v.2.ensures) v.6 v.7)
-    (λ v. grouping_seen a.found (side_cell a.side []) a.m a.w a.own first l.cells j.cells l.i l.out j.out l.src l.dst j.dst l.invariant t key is_key (sym says ∙ not-false r v.0.left) v.1 v.2 v.3)
-    j.branch
+    elim j.branch [
+      | then-not-key_given v ↦ grouping_new a.found (side_cell a.side []) a.m a.w a.own first l.cells j.cells l.i l.out j.out l.src l.dst j.dst l.invariant t key is_key (sym says ∙ v.if-not-key_given.true) c.requires.3 (omega (arith, c.requires.4, l.invariant.long)) (v.cells-is ∙ v.give_key.ensures) v.out-is v.dst-is
+      | else-not-key_given v ↦ grouping_seen a.found (side_cell a.side []) a.m a.w a.own first l.cells j.cells l.i l.out j.out l.src l.dst j.dst l.invariant t key is_key (sym says ∙ v.if-not-key_given.false) v.cells-is v.out-is v.dst-is
+    ]
 
 pub shape_of-cells : goal.shape_of-cells
 shape_of-cells c = c.loop-i.invariant.long

@@ -16,11 +16,14 @@ group_linked-requires c =
     let entry = c.requires in
     let heads : List ℕ = n.new.heads in
     let next : List ℕ = n.new.next in
-    let all-next = n.auto.next ∙ length-replicate {A = ℕ} 4096 0 in record { found_inside = entry.found_inside; equals = (
+    let all-next = n.auto.next ∙ length-replicate {A = ℕ} 4096 0 in record {
+      found_inside = entry.found_inside;
+      equals = (
         entry.equals,
         record {
           all_heads = n.auto.heads ∙ length-replicate {A = ℕ} 4096 0;
           all-next = omega (arith, all-next, entry.found_inside.2);
           index = subst (λ (xs : List ℕ). Index (slot_of a.right) (chunk a.m a.w xs) (upward a.m 0) heads next) (tail_part a.own a.cells.now) n.ensures;
         },
-      ) }
+      );
+    }

@@ -1,6 +1,5 @@
 use mathlib.Core.Path.{◌≡◌, sym, ◌∙◌}
 use mathlib.Core.List.{List}
-use mathlib.Core.Logic.{⊎_elim}
 use Prim.Native.Nat.{ℕ, ◌+◌, ◌*◌, ◌-◌, ◌≤◌}
 use native.Mathlib.Omega.{arith}
 use lib.ListN.{length, drop, take, get_or}
@@ -11,6 +10,7 @@ use Rattle.reporting.specs.Rows.{chunk}
 use Rattle.reporting.proofs.Chunks.{turns}
 use Rattle.reporting.proofs.Groups.{grouping_start, grouping_done, grouping_seen, grouping_new, given_start, given_seen, given_new, first-new, first-given}
 use Rattle.reporting.proofs.group.group_linked.Goals as goal
+use Rattle.reporting.proofs.group.group_linked.Goals.{then-first_linked-i, else-first_linked-i}
 use Rattle.reporting.proofs.group.group_linked.Goals.{In-loop-i}
 
 in_row : (c : In-loop-i) → (c.loop-i.src + c.args.w ≤ length c.loop-i.cells) × (c.args.own + c.args.m * c.args.w ≤ length c.loop-i.cells) × (c.loop-i.dst + 2 ≤ c.args.own)
@@ -76,18 +76,16 @@ loop-i-preserved c =
     let g = l.invariant.1 in
     let room = c.requires.found_inside.3 in
     let inside = (in_row (goal.at.loop-i-preserved c).In-loop-i).1 in
-    ⊎_elim
-    (λ v.
-    let new = first-new a.found key a.m a.w a.own first l.cells j.cells l.i l.out j.out l.src l.dst j.dst p t x is_key g r says v.0.taken in (
-      grouping_new a.found key a.m a.w a.own first l.cells j.cells l.i l.out j.out l.src l.dst j.dst p t x is_key new room inside (v.5 ∙ v.2.ensures) v.6 v.7,
-      given_new a.found key a.m a.w a.own first l.cells j.cells l.i l.out j.out l.src l.dst j.dst p t x is_key g room inside (v.5 ∙ v.2.ensures) v.6,
-    ))
-    (λ v.
-    let seen = first-given a.found key a.m a.w a.own first l.cells j.cells l.i l.out j.out l.src l.dst j.dst p t x is_key g r says v.0.left in (
-      grouping_seen a.found key a.m a.w a.own first l.cells j.cells l.i l.out j.out l.src l.dst j.dst p t x is_key seen v.1 v.2 v.3,
-      given_seen a.found key a.m a.w a.own first l.cells j.cells l.i l.out j.out l.src l.dst j.dst p t x is_key g seen v.1 v.2,
-    ))
-    j.branch
+    elim j.branch [
+      | then-first_linked-i v ↦ let new = first-new a.found key a.m a.w a.own first l.cells j.cells l.i l.out j.out l.src l.dst j.dst p t x is_key g r says v.if-first_linked-i.true in (
+        grouping_new a.found key a.m a.w a.own first l.cells j.cells l.i l.out j.out l.src l.dst j.dst p t x is_key new room inside (v.cells-is ∙ v.give_linked.ensures) v.out-is v.dst-is,
+        given_new a.found key a.m a.w a.own first l.cells j.cells l.i l.out j.out l.src l.dst j.dst p t x is_key g room inside (v.cells-is ∙ v.give_linked.ensures) v.out-is,
+      )
+      | else-first_linked-i v ↦ let seen = first-given a.found key a.m a.w a.own first l.cells j.cells l.i l.out j.out l.src l.dst j.dst p t x is_key g r says v.if-first_linked-i.false in (
+        grouping_seen a.found key a.m a.w a.own first l.cells j.cells l.i l.out j.out l.src l.dst j.dst p t x is_key seen v.cells-is v.out-is v.dst-is,
+        given_seen a.found key a.m a.w a.own first l.cells j.cells l.i l.out j.out l.src l.dst j.dst p t x is_key g seen v.cells-is v.out-is,
+      )
+    ]
 
 pub shape_of-cells : goal.shape_of-cells
 shape_of-cells c = c.loop-i.invariant.0.long

@@ -10,9 +10,9 @@ returns-then-left-ne0 c = λ e. absurd (false≢true e)
 pub returns-else-left-ne0 : goal.returns-else-left-ne0
 returns-else-left-ne0 c = λ e.
     let a = c.args in
-    let p = c.left-1.given in
-    let at : Equals p.0.0 p.0.1.0 a.keys = subst (PlacesFor a.keys) p.1 c.key_places.ensures in
-    rw (← c.if-left-ne0.false, ← eqb-true p.0.1.0 a.place e) at
+    let p = c.in-Equal in
+    let at : Equals p.left p.right a.keys = subst (PlacesFor a.keys) p.is c.key_places.ensures in
+    rw (← c.if-left-ne0.false, ← eqb-true p.right a.place e) at
 
 pub returns-in-Other : goal.returns-in-Other
 returns-in-Other c = λ e. absurd (false≢true e)

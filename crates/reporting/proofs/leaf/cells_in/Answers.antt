@@ -1,17 +1,18 @@
 use Prim.Native.Nat.{ℕ, ◌/◌, ◌≤◌, ◌<◌}
-use mathlib.Core.Logic.{⊎_elim}
 use native.Mathlib.Omega.{arith}
 use lib.ListN.{length}
 use Rattle.reporting.proofs.TableRows.{cells_blanks}
 use Rattle.reporting.proofs.leaf.cells_in.Goals as goal
+use Rattle.reporting.proofs.leaf.cells_in.Goals.{then-n-whole, else-n-whole}
 use Rattle.reporting.proofs.leaf.cells_in.Goals.{Joined-n-whole}
 
 few : (c : Joined-n-whole) → (c.if-n-whole.whole ≤ c.args.n) × (c.if-n-whole.whole ≤ length c.args.from.now / 8)
     × ((j : ℕ) → c.if-n-whole.whole ≤ j → j < c.args.n → length c.args.from.now / 8 ≤ j)
 few c =
-    ⊎_elim
-    (λ e. (omega arith, omega arith, λ j a b. omega arith))
-    (λ e. (omega arith, omega arith, λ j a b. omega arith)) c.if-n-whole.branch
+    elim c.if-n-whole.branch [
+      | then-n-whole e ↦ (omega arith, omega arith, λ j a b. omega arith)
+      | else-n-whole e ↦ (omega arith, omega arith, λ j a b. omega arith)
+    ]
 
 pub words_in-requires : goal.words_in-requires
 words_in-requires c = (omega (arith, (few (goal.at.words_in-requires c).Joined-n-whole).0), (few (goal.at.words_in-requires c).Joined-n-whole).1)

@@ -8,4 +8,4 @@ pub returns-in-10 : goal.returns-in-10
 returns-in-10 c = let a = c.args in more-wide a.node a.ids.now a.jds.now c.in-10.is
 
 pub returns-in_default : goal.returns-in_default
-returns-in_default c = let a = c.args in left-wide a.node a.ids.now a.jds.now c.requires.0 c.in_default.rest.0.1 c.in_default.rest.1
+returns-in_default c = let a = c.args in left-wide a.node a.ids.now a.jds.now c.requires.0 c.in_default.in_default-own.rest.0.1 c.in_default.in_default-own.rest.1

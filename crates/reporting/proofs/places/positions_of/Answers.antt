@@ -1,12 +1,12 @@
 use Rattle.reporting.specs.Positions.{positions}
 use mathlib.Core.Path.{◌≡◌, refl, sym, ap, ◌∙◌}
 use mathlib.Core.List.{List, ◌++◌, append-nil}
-use mathlib.Core.Logic.{⊎_elim}
 use Prim.Native.Nat.{ℕ, ◌+◌, ◌-◌, ◌≤◌, ◌<◌}
 use native.Mathlib.Omega.{arith}
 use lib.ListN.{length, drop, take, length-set}
 use Rattle.reporting.proofs.Alike.{positions_hit, positions_miss, positions-end}
 use Rattle.reporting.proofs.places.positions_of.Goals as goal
+use Rattle.reporting.proofs.places.positions_of.Goals.{then-p-ids, else-p-ids}
 
 pub loop-i-init : goal.loop-i-init
 loop-i-init c = (omega arith, omega arith, refl, refl)
@@ -23,10 +23,10 @@ loop-i-preserved c =
     let all : List ℕ = positions a.list.now a.ids.now in
     let room : l.n < length l.places = omega (arith, l.invariant, c.loop-i-test.true) in
     let turn : (c.if-p-ids.n ≤ l.i + 1) × (length c.if-p-ids.places ≡ length l.places) × (all ≡ take c.if-p-ids.n c.if-p-ids.places ++ positions (drop (l.i + 1) a.list.now) a.ids.now) =
-    ⊎_elim
-    (λ v. (omega (arith, v.2, l.invariant), ap length v.1 ∙ length-set l.places l.n p.result, positions_hit a.list.now a.ids.now l.i all l.places c.if-p-ids.places l.n c.if-p-ids.n p.result c.loop-i-test.true p.ensures l.invariant.3 v.0.taken room v.1 v.2))
-    (λ v. (omega (arith, v.2, l.invariant), ap length v.1, positions_miss a.list.now a.ids.now l.i all l.places c.if-p-ids.places l.n c.if-p-ids.n p.result c.loop-i-test.true p.ensures l.invariant.3 v.0.left v.1 v.2))
-    c.if-p-ids.branch in
+    elim c.if-p-ids.branch [
+      | then-p-ids v ↦ (omega (arith, v.n-is, l.invariant), ap length v.places-is ∙ length-set l.places l.n p.result, positions_hit a.list.now a.ids.now l.i all l.places c.if-p-ids.places l.n c.if-p-ids.n p.result c.loop-i-test.true p.ensures l.invariant.3 v.if-p-ids.true room v.places-is v.n-is)
+      | else-p-ids v ↦ (omega (arith, v.n-is, l.invariant), ap length v.places-is, positions_miss a.list.now a.ids.now l.i all l.places c.if-p-ids.places l.n c.if-p-ids.n p.result c.loop-i-test.true p.ensures l.invariant.3 v.if-p-ids.false v.places-is v.n-is)
+    ] in
     (omega arith, turn.0, turn.1 ∙ l.invariant.2, turn.2)
 
 pub shape_of-places : goal.shape_of-places

@@ -1,7 +1,6 @@
 use mathlib.Core.List.{List, [], ◌∷◌}
 use mathlib.Core.Path.{◌≡◌, refl, sym, ap, ◌∙◌, fun_ext}
 use mathlib.Core.Bool.{Bool, cond}
-use mathlib.Core.Logic.{⊎_elim}
 use Prim.Native.Nat.{◌+◌, ◌-◌, ◌≤◌}
 use native.Mathlib.Omega.{arith}
 use lib.ListN.{length, take, drop, length-drop}
@@ -13,6 +12,7 @@ use Rattle.reporting.proofs.Sides.{condition_wider, condition_left, condition_ri
 use Rattle.reporting.proofs.Copies.{written_copy}
 use Rattle.reporting.proofs.Building.{kept, filter-kept, building_start, building_row, kept-below, kept-turn, skipped_turn, kept-done}
 use Rattle.reporting.proofs.select.select.Goals as goal
+use Rattle.reporting.proofs.select.select.Goals.{then-condition_holds, else-condition_holds}
 use Rattle.reporting.proofs.select.select.Goals.{In-loop-i}
 
 in_row : (c : In-loop-i) → (c.loop-i.src + length c.args.ids.now ≤ length c.loop-i.cells) × (c.loop-i.dst ≤ c.loop-i.src)
@@ -33,7 +33,7 @@ pub copy_row-requires : goal.copy_row-requires
 copy_row-requires c = record { dst_le_src = omega (arith, in_row (goal.at.copy_row-requires c).In-loop-i); w_in_bounds = omega (arith, in_row (goal.at.copy_row-requires c).In-loop-i) }
 
 pub overflow_add-out : goal.overflow_add-out
-overflow_add-out c = omega (arith, c.before.before.before.before.before.before.before, c.loop-i.invariant.0.few)
+overflow_add-out c = omega (arith, c.loop-i.invariant.0.few)
 
 pub overflow_add-dst : goal.overflow_add-dst
 overflow_add-dst c = omega (arith, (in_row (goal.at.overflow_add-dst c).In-loop-i).0, (in_row (goal.at.overflow_add-dst c).In-loop-i).1, (goal.at.overflow_add-dst c).In-loop-i)
@@ -54,10 +54,10 @@ loop-i-preserved c =
     let h = c.loop-i-test.true in
     let (within, below) = in_row (goal.at.loop-i-preserved c).In-loop-i in
     let long : length (drop l.src l.cells) ≡ length l.cells - l.src = length-drop l.src l.cells in
-    ⊎_elim
-    (λ v. (kept-turn p h row c.if-condition_holds.cells c.if-condition_holds.out c.if-condition_holds.dst (ap (λ b. cond b (row ∷ []) []) (met ∙ v.0.taken)) (written_copy l.cells c.if-condition_holds.cells (drop l.src l.cells) l.dst w (v.5 ∙ v.2.ensures) (omega arith) (omega arith)) (omega arith) v.6 v.7, ap length v.5 ∙ v.2.kept.0 ∙ l.invariant.1))
-    (λ v. (skipped_turn p h c.if-condition_holds.cells c.if-condition_holds.out c.if-condition_holds.dst (ap (λ b. cond b (row ∷ []) []) (met ∙ v.0.left)) v.1 v.2 v.3, ap length v.1 ∙ l.invariant.1))
-    c.if-condition_holds.branch
+    elim c.if-condition_holds.branch [
+      | then-condition_holds v ↦ (kept-turn p h row c.if-condition_holds.cells c.if-condition_holds.out c.if-condition_holds.dst (ap (λ b. cond b (row ∷ []) []) (met ∙ v.if-condition_holds.true)) (written_copy l.cells c.if-condition_holds.cells (drop l.src l.cells) l.dst w (v.cells-is ∙ v.copy_row.ensures) (omega arith) (omega arith)) (omega arith) v.out-is v.dst-is, ap length v.cells-is ∙ v.copy_row.auto.cells ∙ l.invariant.1)
+      | else-condition_holds v ↦ (skipped_turn p h c.if-condition_holds.cells c.if-condition_holds.out c.if-condition_holds.dst (ap (λ b. cond b (row ∷ []) []) (met ∙ v.if-condition_holds.false)) v.cells-is v.out-is v.dst-is, ap length v.cells-is ∙ l.invariant.1)
+    ]
 
 pub shape_of-cells : goal.shape_of-cells
 shape_of-cells c = c.loop-i.invariant.1

@@ -10,11 +10,9 @@ returns-in-Always c =
 pub returns-in-Columns : goal.returns-in-Columns
 returns-in-Columns c =
     let a = c.args in
-    let v = c.form-1.given.0 in
-    columns-found a.cs.now a.ds.now (env_of a.env.now) a.negated a.form v.0 v.1.0 v.1.1.0 c.side_of.result c.side_of-in-Columns.result c.in-Columns.is c.side_of.ensures c.side_of-in-Columns.ensures
+    columns-found a.cs.now a.ds.now (env_of a.env.now) a.negated a.form c.in-Columns.comparison c.in-Columns.left c.in-Columns.right c.side_of.result c.side_of-in-Columns.result c.in-Columns.is c.side_of.ensures c.side_of-in-Columns.ensures
 
 pub returns-in-Number : goal.returns-in-Number
 returns-in-Number c =
     let a = c.args in
-    let v = c.form-in-Number-1.given.0 in
-    number-found a.cs.now a.ds.now (env_of a.env.now) a.negated a.form v.0 v.1.0 v.1.1.0 c.side_of-in-Number.result c.in-Number.is c.side_of-in-Number.ensures
+    number-found a.cs.now a.ds.now (env_of a.env.now) a.negated a.form c.in-Number.comparison c.in-Number.left c.in-Number.number c.side_of-in-Number.result c.in-Number.is c.side_of-in-Number.ensures

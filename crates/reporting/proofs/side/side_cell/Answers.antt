@@ -6,35 +6,42 @@ use lib.Seq.{get_or-drop}
 use Rattle.reporting.specs.Sides.{side_cell, SideInside}
 use Rattle.reporting.specs.declared.side.Side.{Side}
 use Rattle.reporting.proofs.side.side_cell.Goals as goal
-use Rattle.reporting.proofs.side.side_cell.Goals.{In-Left-2, In-Right-2}
-
-in_left_lem : (c : In-Left-2) → c.in-Left.place < length c.args.cells.now - c.args.src
-in_left_lem c =
-    let a = c.args in
-    subst (λ (s : Side). SideInside s (length a.cells.now - a.src) (length a.cells.now - a.at)) c.in-Left.is c.requires
-
-in_right_lem : (c : In-Right-2) → c.in-Right.place < length c.args.cells.now - c.args.at
-in_right_lem c =
-    let a = c.args in
-    subst (λ (s : Side). SideInside s (length a.cells.now - a.src) (length a.cells.now - a.at)) c.in-Right.is c.requires
 
 pub overflow_add-result : goal.overflow_add-result
-overflow_add-result c = omega (arith, in_left_lem (goal.at.overflow_add-result c).In-Left-2, c.well_formed)
+overflow_add-result c =
+    let a = c.args in
+    let inside = subst (λ (s : Side). SideInside s (length a.cells.now - a.src) (length a.cells.now - a.at)) c.in-Left.is c.requires in
+    omega (arith, inside, c.well_formed)
 
 pub offset_bounds-cells-src : goal.offset_bounds-cells-src
-offset_bounds-cells-src c = omega (arith, in_left_lem (goal.at.offset_bounds-cells-src c).In-Left-2, c.well_formed)
+offset_bounds-cells-src c =
+    let a = c.args in
+    let inside = subst (λ (s : Side). SideInside s (length a.cells.now - a.src) (length a.cells.now - a.at)) c.in-Left.is c.requires in
+    omega (arith, inside, c.well_formed)
 
 pub bounds-cells-src : goal.bounds-cells-src
-bounds-cells-src c = omega (arith, in_left_lem (goal.at.bounds-cells-src c).In-Left-2, c.well_formed)
+bounds-cells-src c =
+    let a = c.args in
+    let inside = subst (λ (s : Side). SideInside s (length a.cells.now - a.src) (length a.cells.now - a.at)) c.in-Left.is c.requires in
+    omega (arith, inside, c.well_formed)
 
 pub overflow_add-result-in-Right : goal.overflow_add-result-in-Right
-overflow_add-result-in-Right c = omega (arith, in_right_lem (goal.at.overflow_add-result-in-Right c).In-Right-2, c.well_formed)
+overflow_add-result-in-Right c =
+    let a = c.args in
+    let inside = subst (λ (s : Side). SideInside s (length a.cells.now - a.src) (length a.cells.now - a.at)) c.in-Right.is c.requires in
+    omega (arith, inside, c.well_formed)
 
 pub offset_bounds-cells-at : goal.offset_bounds-cells-at
-offset_bounds-cells-at c = omega (arith, in_right_lem (goal.at.offset_bounds-cells-at c).In-Right-2, c.well_formed)
+offset_bounds-cells-at c =
+    let a = c.args in
+    let inside = subst (λ (s : Side). SideInside s (length a.cells.now - a.src) (length a.cells.now - a.at)) c.in-Right.is c.requires in
+    omega (arith, inside, c.well_formed)
 
 pub bounds-cells-at : goal.bounds-cells-at
-bounds-cells-at c = omega (arith, in_right_lem (goal.at.bounds-cells-at c).In-Right-2, c.well_formed)
+bounds-cells-at c =
+    let a = c.args in
+    let inside = subst (λ (s : Side). SideInside s (length a.cells.now - a.src) (length a.cells.now - a.at)) c.in-Right.is c.requires in
+    omega (arith, inside, c.well_formed)
 
 pub returns-in-Left : goal.returns-in-Left
 returns-in-Left c =

@@ -50,7 +50,7 @@ found c =
 pub returns-then-number-ne0 : goal.returns-then-number-ne0
 returns-then-number-ne0 c =
     let a = c.args in
-    rows-turned a.set.now a.plan.now a.scratch.now (one (distinct (a.id ∷ [])) (plan_at a.plan.now a.place)) c.refused.result _ _ c.turned_back-number.ensures c.if-number-ne0.true c.refused.ensures
+    rows-turned a.set.now a.plan.now a.scratch.now (one (distinct (a.id ∷ [])) (plan_at a.plan.now a.place)) c.refused.result _ _ (c.turned_back-number.ensures.value, c.turned_back-number.ensures.scratch_after) c.if-number-ne0.true c.refused.ensures
 
 pub slice_bounds-eval-count : goal.slice_bounds-eval-count
 slice_bounds-eval-count c = omega (arith, long ((goal.at.slice_bounds-eval-count c).Else-number-ne0), c.turned_back-number.auto.scratch)

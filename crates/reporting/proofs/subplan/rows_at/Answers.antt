@@ -27,7 +27,7 @@ found c =
 pub returns-then-number-ne0 : goal.returns-then-number-ne0
 returns-then-number-ne0 c =
     let a = c.args in
-    rows-turned a.set.now a.plan.now a.scratch.now (plan_at a.plan.now a.place) c.refused.result _ _ c.turned_back-number.ensures c.if-number-ne0.true c.refused.ensures
+    rows-turned a.set.now a.plan.now a.scratch.now (plan_at a.plan.now a.place) c.refused.result _ _ (c.turned_back-number.ensures.value, c.turned_back-number.ensures.scratch_after) c.if-number-ne0.true c.refused.ensures
 
 pub eval-rows-requires : goal.eval-rows-requires
 eval-rows-requires c = rw c.turned_back-number.auto.scratch (readied (goal.at.eval-rows-requires c).Else-number-ne0)

@@ -1,0 +1,465 @@
+-- What the evaluator's cycle leaves to show, a part for each member.
+use mathlib.Core.Path.{◌≡◌, sym, ap, ◌∙◌, subst, refl}
+use Prim.Native.Nat.{ℕ, ◌+◌, ◌-◌, ◌≤◌, ◌<◌, ◌*◌}
+use native.Mathlib.Omega.{arith}
+use lib.ListN.{length}
+use Rattle.algebra.specs.Refusals.{bound}
+use Rattle.reading.specs.TableSet.{tables_of}
+use Rattle.reading.specs.Tree.{operator_of, plan_at}
+use Rattle.reading.specs.Nodes.{arity}
+use Rattle.reporting.specs.Rows.{env_of, emitted_columns, emitted_most}
+use Rattle.reporting.specs.Evaluation.{part_at, columns_at, bound_at, StepRoom}
+use Rattle.reading.specs.Plan.{nodes_of}
+use Rattle.reading.proofs.Operators.{arity_of}
+use Rattle.reading.proofs.Trees.{plan_past, second_at}
+use borrow.Rule.Slice.PartMut.{put_mid, same_len_mid}
+use Rattle.reporting.proofs.Soundness.{sound-bound, sound-width}
+use Rattle.reporting.proofs.Children.{First, Single, Double, childless-at, first-at, single-at, double-at, two_of, keeps_rows}
+use Rattle.reporting.proofs.Arms.{Kid, kid_of, past_arm, leaf_room, leaf_arm, own-fits, child_ready, unary_room, unary_arm, behind-fits, inner_ready, right-inside, few_of, loop_room, nested_arm, binary_arm, ids-part, rows_fit, step_less, step_arm}
+use Rattle.reporting.proofs.Lent.{tail_length}
+use mathlib.Core.List.{List}
+use Rattle.reporting.proofs.Chunks.{rows_left_lem, turns, part-row, part_length}
+use Rattle.reporting.proofs.Building.{building_start, building_done, building_turn, building_row, turn_below, turn-ends}
+use Rattle.algebra.specs.Plans.{Row, bind}
+use Rattle.reporting.proofs.eval.+eval_nested_at_nested_loop_row_step.Goals as goal
+use Rattle.reporting.proofs.eval.+eval_nested_at_nested_loop_row_step.Goals.{eval-After-children_of-children, eval-After-eval-k, eval-After-eval-m, eval-After-tree_end-right, eval-After-tree_part, eval-Else-children-eq0, eval-Else-children-eq1, eval-Else-nodes_of-at, eval-Then-children-eq1, nested_loop-After-emitted_width-wo, nested_loop-After-row_step-r, nested_loop-In-loop-i, row_step-After-eval-k}
+
+-- ---- eval
+
+eval-here : (t : ℕ) (c : eval-Else-nodes_of-at t) → let a = c.args in a.at < nodes_of a.plan.now
+eval-here t c = omega (arith, c.if-nodes_of-at.false, c.nodes_of.ensures.0)
+
+eval-kinds : (t : ℕ) (c : eval-After-children_of-children t) → c.children_of-children.result ≡ arity (operator_of c.node_at-node.result)
+eval-kinds t c = c.children_of-children.ensures ∙ arity_of c.node_at-node.result
+
+eval-first : (t : ℕ) (c : eval-Else-children-eq0 t) → let a = c.args in First (tables_of a.set.now) (operator_of c.node_at-node.result) (plan_at a.plan.now a.at) (plan_at a.plan.now (a.at + 1))
+eval-first t c =
+    let here-here : let a = c.args in a.at < nodes_of a.plan.now = omega (arith, c.if-nodes_of-at.false, c.nodes_of.ensures.0) in
+    let here-kinds : c.children_of-children.result ≡ arity (operator_of c.node_at-node.result) = c.children_of-children.ensures ∙ arity_of c.node_at-node.result in
+    let a = c.args in first-at (tables_of a.set.now) a.plan.now a.at c.node_at-node.result (here-here) c.node_at-node.ensures (λ e. c.if-children-eq0.false (here-kinds ∙ e))
+
+eval-back : (t : ℕ) (c : eval-After-eval-m t) → let a = c.args in let own = c.share_at-own.result in let last = c.eval-m.new.cells in (length (put_mid own (length a.cells.now - own) a.cells.now last) ≡ length a.cells.now) × Kid (tables_of a.set.now) (plan_at a.plan.now (a.at + 1)) (env_of a.env.now) c.eval-m.result last
+eval-back t c =
+    let here-first : let a = c.args in First (tables_of a.set.now) (operator_of c.node_at-node.result) (plan_at a.plan.now a.at) (plan_at a.plan.now (a.at + 1)) = let here-here : let a = c.args in a.at < nodes_of a.plan.now = omega (arith, c.if-nodes_of-at.false, c.nodes_of.ensures.0) in
+    let here-kinds : c.children_of-children.result ≡ arity (operator_of c.node_at-node.result) = c.children_of-children.ensures ∙ arity_of c.node_at-node.result in
+    let a = c.args in first-at (tables_of a.set.now) a.plan.now a.at c.node_at-node.result (here-here) c.node_at-node.ensures (λ e. c.if-children-eq0.false (here-kinds ∙ e)) in
+    let a = c.args in
+    let own = c.share_at-own.result in
+    let last = c.eval-m.new.cells in
+    let len : length last ≡ length a.cells.now - own = c.eval-m.auto.cells ∙ tail_length own a.cells.now in
+    (same_len_mid own (length a.cells.now - own) a.cells.now last c.eval-m.auto.cells, kid_of (child_ready c.requires (here-first) c.share_at-own.ensures.0 (length last) len) c.eval-m.ensures)
+
+eval-only : (t : ℕ) (c : eval-Then-children-eq1 t) → let a = c.args in Single (tables_of a.set.now) (operator_of c.node_at-node.result) (plan_at a.plan.now a.at) (plan_at a.plan.now (a.at + 1))
+eval-only t c =
+    let here-here : let a = c.args in a.at < nodes_of a.plan.now = omega (arith, c.if-nodes_of-at.false, c.nodes_of.ensures.0) in
+    let here-kinds : c.children_of-children.result ≡ arity (operator_of c.node_at-node.result) = c.children_of-children.ensures ∙ arity_of c.node_at-node.result in
+    let a = c.args in single-at (tables_of a.set.now) a.plan.now a.at c.node_at-node.result (here-here) c.node_at-node.ensures (sym (here-kinds) ∙ c.if-children-eq1.true)
+
+eval-pair : (t : ℕ) (c : eval-Else-children-eq1 t) → arity (operator_of c.node_at-node.result) ≡ 2
+eval-pair t c =
+    let here-kinds : c.children_of-children.result ≡ arity (operator_of c.node_at-node.result) = c.children_of-children.ensures ∙ arity_of c.node_at-node.result in
+    let e = here-kinds in two_of (operator_of c.node_at-node.result) (λ z. c.if-children-eq0.false (e ∙ z)) (λ z. c.if-children-eq1.false (e ∙ z))
+
+eval-both : (t : ℕ) (c : eval-After-tree_end-right t) → let a = c.args in Double (tables_of a.set.now) (operator_of c.node_at-node.result) (plan_at a.plan.now a.at) (plan_at a.plan.now (a.at + 1)) (plan_at a.plan.now c.tree_end-right.result)
+eval-both t c =
+    let here-here : let a = c.args in a.at < nodes_of a.plan.now = omega (arith, c.if-nodes_of-at.false, c.nodes_of.ensures.0) in
+    let here-pair : arity (operator_of c.node_at-node.result) ≡ 2 = let here-kinds : c.children_of-children.result ≡ arity (operator_of c.node_at-node.result) = c.children_of-children.ensures ∙ arity_of c.node_at-node.result in
+    let e = here-kinds in two_of (operator_of c.node_at-node.result) (λ z. c.if-children-eq0.false (e ∙ z)) (λ z. c.if-children-eq1.false (e ∙ z)) in
+    let a = c.args in
+    let T = tables_of a.set.now in
+    let node = c.node_at-node.result in
+    subst (Double T (operator_of node) (plan_at a.plan.now a.at) (plan_at a.plan.now (a.at + 1))) (sym (second_at a.plan.now a.at c.tree_end-right.result c.tree_end-right.ensures))
+    (double-at T a.plan.now a.at node (here-here) c.node_at-node.ensures (here-pair))
+
+eval-behind-at : (t : ℕ) (c : eval-After-tree_part t) → let a = c.args in c.share_at-own.result + c.tree_part.result ≡ c.share_at-own.result + part_at a.set.now a.plan.now (a.at + 1)
+eval-behind-at t c = ap (λ (x : ℕ). c.share_at-own.result + x) c.tree_part.ensures
+
+eval-within : (t : ℕ) (c : eval-After-tree_part t) → c.share_at-own.result + c.tree_part.result ≤ length c.args.cells.now
+eval-within t c =
+    let here-both : let a = c.args in Double (tables_of a.set.now) (operator_of c.node_at-node.result) (plan_at a.plan.now a.at) (plan_at a.plan.now (a.at + 1)) (plan_at a.plan.now c.tree_end-right.result) = let here-here : let a = c.args in a.at < nodes_of a.plan.now = omega (arith, c.if-nodes_of-at.false, c.nodes_of.ensures.0) in
+    let here-pair : arity (operator_of c.node_at-node.result) ≡ 2 = let here-kinds : c.children_of-children.result ≡ arity (operator_of c.node_at-node.result) = c.children_of-children.ensures ∙ arity_of c.node_at-node.result in
+    let e = here-kinds in two_of (operator_of c.node_at-node.result) (λ z. c.if-children-eq0.false (e ∙ z)) (λ z. c.if-children-eq1.false (e ∙ z)) in
+    let a = c.args in
+    let T = tables_of a.set.now in
+    let node = c.node_at-node.result in
+    subst (Double T (operator_of node) (plan_at a.plan.now a.at) (plan_at a.plan.now (a.at + 1))) (sym (second_at a.plan.now a.at c.tree_end-right.result c.tree_end-right.ensures))
+    (double-at T a.plan.now a.at node (here-here) c.node_at-node.ensures (here-pair)) in
+    let here-first : let a = c.args in First (tables_of a.set.now) (operator_of c.node_at-node.result) (plan_at a.plan.now a.at) (plan_at a.plan.now (a.at + 1)) = let here-here : let a = c.args in a.at < nodes_of a.plan.now = omega (arith, c.if-nodes_of-at.false, c.nodes_of.ensures.0) in
+    let here-kinds : c.children_of-children.result ≡ arity (operator_of c.node_at-node.result) = c.children_of-children.ensures ∙ arity_of c.node_at-node.result in
+    let a = c.args in first-at (tables_of a.set.now) a.plan.now a.at c.node_at-node.result (here-here) c.node_at-node.ensures (λ e. c.if-children-eq0.false (here-kinds ∙ e)) in
+    behind-fits (here-both) c.requires (here-first) c.share_at-own.ensures.0 (eval-behind-at t c)
+
+eval-beyond : (t : ℕ) (c : eval-After-tree_part t) → let a = c.args in let own = c.share_at-own.result in own + c.tree_part.result ≤ length (put_mid own (length a.cells.now - own) a.cells.now c.eval-m.new.cells)
+eval-beyond t c =
+    let here-back : let a = c.args in let own = c.share_at-own.result in let last = c.eval-m.new.cells in (length (put_mid own (length a.cells.now - own) a.cells.now last) ≡ length a.cells.now) × Kid (tables_of a.set.now) (plan_at a.plan.now (a.at + 1)) (env_of a.env.now) c.eval-m.result last = let here-first : let a = c.args in First (tables_of a.set.now) (operator_of c.node_at-node.result) (plan_at a.plan.now a.at) (plan_at a.plan.now (a.at + 1)) = let here-here : let a = c.args in a.at < nodes_of a.plan.now = omega (arith, c.if-nodes_of-at.false, c.nodes_of.ensures.0) in
+    let here-kinds : c.children_of-children.result ≡ arity (operator_of c.node_at-node.result) = c.children_of-children.ensures ∙ arity_of c.node_at-node.result in
+    let a = c.args in first-at (tables_of a.set.now) a.plan.now a.at c.node_at-node.result (here-here) c.node_at-node.ensures (λ e. c.if-children-eq0.false (here-kinds ∙ e)) in
+    let a = c.args in
+    let own = c.share_at-own.result in
+    let last = c.eval-m.new.cells in
+    let len : length last ≡ length a.cells.now - own = c.eval-m.auto.cells ∙ tail_length own a.cells.now in
+    (same_len_mid own (length a.cells.now - own) a.cells.now last c.eval-m.auto.cells, kid_of (child_ready c.requires (here-first) c.share_at-own.ensures.0 (length last) len) c.eval-m.ensures) in
+    omega (arith, eval-within t c, (here-back).0)
+
+eval-back₂ : (t : ℕ) (c : eval-After-eval-k t) → let a = c.args in let own = c.share_at-own.result in let cells = put_mid own (length a.cells.now - own) a.cells.now c.eval-m.new.cells in let behind = own + c.tree_part.result in let last = c.eval-k.new.cells in (length (put_mid behind (length cells - behind) cells last) ≡ length a.cells.now) × Kid (tables_of a.set.now) (plan_at a.plan.now c.tree_end-right.result) (env_of a.env.now) c.eval-k.result last
+eval-back₂ t c =
+    let here-back : let a = c.args in let own = c.share_at-own.result in let last = c.eval-m.new.cells in (length (put_mid own (length a.cells.now - own) a.cells.now last) ≡ length a.cells.now) × Kid (tables_of a.set.now) (plan_at a.plan.now (a.at + 1)) (env_of a.env.now) c.eval-m.result last = let here-first : let a = c.args in First (tables_of a.set.now) (operator_of c.node_at-node.result) (plan_at a.plan.now a.at) (plan_at a.plan.now (a.at + 1)) = let here-here : let a = c.args in a.at < nodes_of a.plan.now = omega (arith, c.if-nodes_of-at.false, c.nodes_of.ensures.0) in
+    let here-kinds : c.children_of-children.result ≡ arity (operator_of c.node_at-node.result) = c.children_of-children.ensures ∙ arity_of c.node_at-node.result in
+    let a = c.args in first-at (tables_of a.set.now) a.plan.now a.at c.node_at-node.result (here-here) c.node_at-node.ensures (λ e. c.if-children-eq0.false (here-kinds ∙ e)) in
+    let a = c.args in
+    let own = c.share_at-own.result in
+    let last = c.eval-m.new.cells in
+    let len : length last ≡ length a.cells.now - own = c.eval-m.auto.cells ∙ tail_length own a.cells.now in
+    (same_len_mid own (length a.cells.now - own) a.cells.now last c.eval-m.auto.cells, kid_of (child_ready c.requires (here-first) c.share_at-own.ensures.0 (length last) len) c.eval-m.ensures) in
+    let here-behind-at : let a = c.args in c.share_at-own.result + c.tree_part.result ≡ c.share_at-own.result + part_at a.set.now a.plan.now (a.at + 1) = ap (λ (x : ℕ). c.share_at-own.result + x) c.tree_part.ensures in
+    let here-both : let a = c.args in Double (tables_of a.set.now) (operator_of c.node_at-node.result) (plan_at a.plan.now a.at) (plan_at a.plan.now (a.at + 1)) (plan_at a.plan.now c.tree_end-right.result) = let here-here : let a = c.args in a.at < nodes_of a.plan.now = omega (arith, c.if-nodes_of-at.false, c.nodes_of.ensures.0) in
+    let here-pair : arity (operator_of c.node_at-node.result) ≡ 2 = let here-kinds : c.children_of-children.result ≡ arity (operator_of c.node_at-node.result) = c.children_of-children.ensures ∙ arity_of c.node_at-node.result in
+    let e = here-kinds in two_of (operator_of c.node_at-node.result) (λ z. c.if-children-eq0.false (e ∙ z)) (λ z. c.if-children-eq1.false (e ∙ z)) in
+    let a = c.args in
+    let T = tables_of a.set.now in
+    let node = c.node_at-node.result in
+    subst (Double T (operator_of node) (plan_at a.plan.now a.at) (plan_at a.plan.now (a.at + 1))) (sym (second_at a.plan.now a.at c.tree_end-right.result c.tree_end-right.ensures))
+    (double-at T a.plan.now a.at node (here-here) c.node_at-node.ensures (here-pair)) in
+    let here-first : let a = c.args in First (tables_of a.set.now) (operator_of c.node_at-node.result) (plan_at a.plan.now a.at) (plan_at a.plan.now (a.at + 1)) = let here-here : let a = c.args in a.at < nodes_of a.plan.now = omega (arith, c.if-nodes_of-at.false, c.nodes_of.ensures.0) in
+    let here-kinds : c.children_of-children.result ≡ arity (operator_of c.node_at-node.result) = c.children_of-children.ensures ∙ arity_of c.node_at-node.result in
+    let a = c.args in first-at (tables_of a.set.now) a.plan.now a.at c.node_at-node.result (here-here) c.node_at-node.ensures (λ e. c.if-children-eq0.false (here-kinds ∙ e)) in
+    let a = c.args in
+    let own = c.share_at-own.result in
+    let cells = put_mid own (length a.cells.now - own) a.cells.now c.eval-m.new.cells in
+    let behind = own + c.tree_part.result in
+    let last = c.eval-k.new.cells in
+    let was = (here-back).0 in
+    let b = here-behind-at in
+    let len : length last ≡ length a.cells.now - behind = c.eval-k.auto.cells ∙ tail_length behind cells ∙ ap (λ (x : ℕ). x - behind) was in
+    (same_len_mid behind (length cells - behind) cells last c.eval-k.auto.cells ∙ was, kid_of (inner_ready (here-both) c.requires (here-first) c.share_at-own.ensures.0 b (length last) len) c.eval-k.ensures)
+
+pub eval-returns-then-nodes_of-at : goal.eval-returns-then-nodes_of-at
+eval-returns-then-nodes_of-at t c =
+    let a = c.args in
+    past_arm (tables_of a.set.now) (plan_at a.plan.now a.at) (env_of a.env.now) a.cells.now (plan_past a.plan.now a.at (omega (arith, c.if-nodes_of-at.true, c.nodes_of.ensures.0)))
+
+pub eval-leaf-requires : goal.eval-leaf-requires
+eval-leaf-requires t c =
+    let a = c.args in
+    leaf_room (childless-at (tables_of a.set.now) a.plan.now a.at c.node_at-node.result (eval-here t (goal.at.eval-leaf-requires t c).Else-nodes_of-at) c.node_at-node.ensures (sym (eval-kinds t (goal.at.eval-leaf-requires t c).After-children_of-children) ∙ c.if-children-eq0.true)) c.requires
+
+pub eval-shape_of-cells-then-children-eq0 : goal.eval-shape_of-cells-then-children-eq0
+eval-shape_of-cells-then-children-eq0 t c = c.leaf.auto.cells
+
+pub eval-returns-then-children-eq0 : goal.eval-returns-then-children-eq0
+eval-returns-then-children-eq0 t c =
+    let a = c.args in
+    leaf_arm (childless-at (tables_of a.set.now) a.plan.now a.at c.node_at-node.result (eval-here t (goal.at.eval-returns-then-children-eq0 t c).Else-nodes_of-at) c.node_at-node.ensures (sym (eval-kinds t (goal.at.eval-returns-then-children-eq0 t c).After-children_of-children) ∙ c.if-children-eq0.true)) (env_of a.env.now) c.leaf.ensures
+
+pub eval-share_at-own-requires : goal.eval-share_at-own-requires
+eval-share_at-own-requires t c = c.requires.sound
+
+pub eval-overflow_add-left : goal.eval-overflow_add-left
+eval-overflow_add-left t c = omega (arith, eval-here t (goal.at.eval-overflow_add-left t c).Else-nodes_of-at, c.nodes_of.ensures)
+
+pub eval-offset_bounds-cells-own : goal.eval-offset_bounds-cells-own
+eval-offset_bounds-cells-own t c = omega (arith, c.share_at-own.ensures.1)
+
+pub eval-slice_bounds-eval-count : goal.eval-slice_bounds-eval-count
+eval-slice_bounds-eval-count t c = own-fits c.requires (eval-first t (goal.at.eval-slice_bounds-eval-count t c).Else-children-eq0) c.share_at-own.ensures.0
+
+pub eval-slice_bounds-eval-start : goal.eval-slice_bounds-eval-start
+eval-slice_bounds-eval-start t c = own-fits c.requires (eval-first t (goal.at.eval-slice_bounds-eval-start t c).Else-children-eq0) c.share_at-own.ensures.0
+
+pub eval-eval-m-requires : goal.eval-eval-m-requires
+eval-eval-m-requires t c = (omega (arith, (eval-first t (goal.at.eval-eval-m-requires t c).Else-children-eq0).smaller, c.decreases), child_ready c.requires (eval-first t (goal.at.eval-eval-m-requires t c).Else-children-eq0) c.share_at-own.ensures.0 _ (tail_length c.share_at-own.result c.args.cells.now))
+
+pub eval-unary_at-requires : goal.eval-unary_at-requires
+eval-unary_at-requires t c =
+    let R = c.requires in
+    let F = eval-first t (goal.at.eval-unary_at-requires t c).Else-children-eq0 in
+    let few = c.eval-m.ensures.few in
+    let sound = F.sound R.sound in record { sound_at = (sound, sym (eval-kinds t (goal.at.eval-unary_at-requires t c).After-children_of-children) ∙ c.if-children-eq1.true, R.bound, omega (arith, few, sound-bound sound)); unary_room = rw (eval-back t (goal.at.eval-unary_at-requires t c).After-eval-m).0 (unary_room (eval-only t (goal.at.eval-unary_at-requires t c).Then-children-eq1) _ R F c.share_at-own.ensures.0 few) }
+
+pub eval-shape_of-cells-then-children-eq1 : goal.eval-shape_of-cells-then-children-eq1
+eval-shape_of-cells-then-children-eq1 t c = c.unary_at.auto.cells ∙ (eval-back t (goal.at.eval-shape_of-cells-then-children-eq1 t c).After-eval-m).0
+
+pub eval-returns-then-children-eq1 : goal.eval-returns-then-children-eq1
+eval-returns-then-children-eq1 t c =
+    let a = c.args in
+    let own = c.share_at-own.result in
+    unary_arm (eval-only t (goal.at.eval-returns-then-children-eq1 t c).Then-children-eq1) own (length a.cells.now - own) a.cells.now (own-fits c.requires (eval-first t (goal.at.eval-returns-then-children-eq1 t c).Else-children-eq0) c.share_at-own.ensures.0) (eval-back t (goal.at.eval-returns-then-children-eq1 t c).After-eval-m).1 c.unary_at.ensures
+
+pub eval-tree_part-requires : goal.eval-tree_part-requires
+eval-tree_part-requires t c = (eval-first t (goal.at.eval-tree_part-requires t c).Else-children-eq0).sound c.requires.sound
+
+pub eval-overflow_add-behind : goal.eval-overflow_add-behind
+eval-overflow_add-behind t c = omega (arith, eval-within t (goal.at.eval-overflow_add-behind t c).After-tree_part, c.well_formed)
+
+pub eval-nested_at-requires : goal.eval-nested_at-requires
+eval-nested_at-requires t c =
+    let R = c.requires in
+    let D = eval-both t (goal.at.eval-nested_at-requires t c).After-tree_end-right in
+    let F = eval-first t (goal.at.eval-nested_at-requires t c).Else-children-eq0 in
+    let o = c.share_at-own.ensures.0 in
+    let b = eval-behind-at t (goal.at.eval-nested_at-requires t c).After-tree_part in
+    let few = c.eval-m.ensures.few in
+    let len = (eval-back t (goal.at.eval-nested_at-requires t c).After-eval-m).0 in (
+      omega (arith, D.smaller, c.decreases),
+      (
+        (F.sound R.sound, eval-pair t (goal.at.eval-nested_at-requires t c).Else-children-eq1, eval-beyond t (goal.at.eval-nested_at-requires t c).After-tree_part),
+        (few_of D R F o b _ _ few (omega arith), (loop_room D R F o b _ _ few (omega arith), inner_ready D R F o b _ (omega (arith, len)))),
+      ),
+    )
+
+pub eval-shape_of-cells-then-not-runs_once : goal.eval-shape_of-cells-then-not-runs_once
+eval-shape_of-cells-then-not-runs_once t c = c.nested_at.auto.cells ∙ (eval-back t (goal.at.eval-shape_of-cells-then-not-runs_once t c).After-eval-m).0
+
+pub eval-returns-then-not-runs_once : goal.eval-returns-then-not-runs_once
+eval-returns-then-not-runs_once t c =
+    let a = c.args in
+    let own = c.share_at-own.result in
+    nested_arm (eval-both t (goal.at.eval-returns-then-not-runs_once t c).After-tree_end-right) own (length a.cells.now - own) a.cells.now (c.runs_once.ensures.nests (c.if-not-runs_once.true)) (own-fits c.requires (eval-first t (goal.at.eval-returns-then-not-runs_once t c).Else-children-eq0) c.share_at-own.ensures.0) (eval-back t (goal.at.eval-returns-then-not-runs_once t c).After-eval-m).1 c.nested_at.ensures
+
+pub eval-offset_bounds-cells-behind : goal.eval-offset_bounds-cells-behind
+eval-offset_bounds-cells-behind t c = omega (arith, eval-within t (goal.at.eval-offset_bounds-cells-behind t c).After-tree_part, c.well_formed)
+
+pub eval-slice_bounds-eval-count-2 : goal.eval-slice_bounds-eval-count-2
+eval-slice_bounds-eval-count-2 t c = eval-beyond t (goal.at.eval-slice_bounds-eval-count-2 t c).After-tree_part
+
+pub eval-slice_bounds-eval-start-2 : goal.eval-slice_bounds-eval-start-2
+eval-slice_bounds-eval-start-2 t c = eval-beyond t (goal.at.eval-slice_bounds-eval-start-2 t c).After-tree_part
+
+pub eval-eval-k-requires : goal.eval-eval-k-requires
+eval-eval-k-requires t c =
+    let a = c.args in
+    let own = c.share_at-own.result in
+    let cells = put_mid own (length a.cells.now - own) a.cells.now c.eval-m.new.cells in
+    let behind = own + c.tree_part.result in
+    let b = eval-behind-at t (goal.at.eval-eval-k-requires t c).After-tree_part in (
+      omega (arith, (eval-both t (goal.at.eval-eval-k-requires t c).After-tree_end-right).smaller, c.decreases),
+      inner_ready (eval-both t (goal.at.eval-eval-k-requires t c).After-tree_end-right) c.requires (eval-first t (goal.at.eval-eval-k-requires t c).Else-children-eq0) c.share_at-own.ensures.0 b _ (tail_length behind cells ∙ ap (λ (x : ℕ). x - behind) (eval-back t (goal.at.eval-eval-k-requires t c).After-eval-m).0),
+    )
+
+pub eval-binary_at-requires : goal.eval-binary_at-requires
+eval-binary_at-requires t c =
+    let R = c.requires in
+    let D = eval-both t (goal.at.eval-binary_at-requires t c).After-tree_end-right in
+    let F = eval-first t (goal.at.eval-binary_at-requires t c).Else-children-eq0 in
+    let o = c.share_at-own.ensures.0 in
+    let b = eval-behind-at t (goal.at.eval-binary_at-requires t c).After-tree_part in
+    let few = c.eval-m.ensures.few in
+    let few₂ = c.eval-k.ensures.few in
+    let sound₂ = D.sound R.sound in record { sound_at = (F.sound R.sound, sound₂, eval-pair t (goal.at.eval-binary_at-requires t c).Else-children-eq1, R.bound); k_bound = (omega (arith, few₂, sound-bound sound₂), few_of D R F o b _ _ few few₂, omega (arith, right-inside D R F o b _ few₂, (eval-back₂ t (goal.at.eval-binary_at-requires t c).After-eval-k).0)); loop_room = loop_room D R F o b _ _ few few₂ }
+
+pub eval-shape_of-cells : goal.eval-shape_of-cells
+eval-shape_of-cells t c = c.binary_at.auto.cells ∙ (eval-back₂ t (goal.at.eval-shape_of-cells t c).After-eval-k).0
+
+pub eval-returns : goal.eval-returns
+eval-returns t c =
+    let a = c.args in
+    let own = c.share_at-own.result in
+    let cells = put_mid own (length a.cells.now - own) a.cells.now c.eval-m.new.cells in
+    let behind = own + c.tree_part.result in
+    let R = c.requires in
+    let D = eval-both t (goal.at.eval-returns t c).After-tree_end-right in
+    let F = eval-first t (goal.at.eval-returns t c).Else-children-eq0 in
+    let o = c.share_at-own.ensures.0 in
+    let few = c.eval-m.ensures.few in
+    let few₂ = c.eval-k.ensures.few in
+    binary_arm D own (length a.cells.now - own) behind (length cells - behind) a.cells.now (c.runs_once.ensures.same (c.if-not-runs_once.false)) (own-fits R F o) (eval-back t (goal.at.eval-returns t c).After-eval-m).1 (loop_room D R F o (eval-behind-at t (goal.at.eval-returns t c).After-tree_part) _ _ few few₂).apart (eval-beyond t (goal.at.eval-returns t c).After-tree_part) (eval-back₂ t (goal.at.eval-returns t c).After-eval-k).1 c.binary_at.ensures
+
+-- ---- nested_at
+
+pub nested_at-slice_bounds-columns_into-end : goal.nested_at-slice_bounds-columns_into-end
+nested_at-slice_bounds-columns_into-end t c = refl
+
+pub nested_at-columns_into-w-requires : goal.nested_at-columns_into-w-requires
+nested_at-columns_into-w-requires t c = (c.requires.sound_at.0, sound-width c.requires.sound_at.0)
+
+pub nested_at-slice_bounds-columns_into-end-2 : goal.nested_at-slice_bounds-columns_into-end-2
+nested_at-slice_bounds-columns_into-end-2 t c = refl
+
+pub nested_at-columns_into-v-requires : goal.nested_at-columns_into-v-requires
+nested_at-columns_into-v-requires t c = let s = c.requires.ready_at.sound in (s, sound-width s)
+
+pub nested_at-slice_bounds-nested_loop-end : goal.nested_at-slice_bounds-nested_loop-end
+nested_at-slice_bounds-nested_loop-end t c = omega (arith, sound-width c.requires.sound_at.0, c.columns_into-w.ensures.0, c.columns_into-w.auto.ids)
+
+pub nested_at-slice_bounds-nested_loop-end-2 : goal.nested_at-slice_bounds-nested_loop-end-2
+nested_at-slice_bounds-nested_loop-end-2 t c = omega (arith, sound-width c.requires.ready_at.sound, c.columns_into-v.ensures.0, c.columns_into-v.auto.ids)
+
+pub nested_at-nested_loop-requires : goal.nested_at-nested_loop-requires
+nested_at-nested_loop-requires t c =
+    let s = c.requires in
+    let e = ids-part c.columns_into-w.result c.columns_into-w.new.ids c.columns_into-w.ensures.1 in
+    let f = ids-part c.columns_into-v.result c.columns_into-v.new.ids c.columns_into-v.ensures.1 in
+    rw (e, f) (omega (arith, c.decreases), ((s.sound_at.1, refl, sound-width s.sound_at.0, s.sound_at.2), (s.inner_bound, (s.loop_room, s.ready_at))))
+
+pub nested_at-shape_of-cells : goal.nested_at-shape_of-cells
+nested_at-shape_of-cells t c = c.nested_loop.auto.cells
+
+pub nested_at-returns : goal.nested_at-returns
+nested_at-returns t c =
+    let e = ids-part c.columns_into-w.result c.columns_into-w.new.ids c.columns_into-w.ensures.1 in
+    rw e at c.nested_loop.ensures
+
+-- ---- nested_loop
+
+nested_loop-in_row : (t : ℕ) (c : nested_loop-In-loop-i t) → let a = c.args in let l = c.loop-i in let op = operator_of a.node in let k = bound_at a.set.now a.plan.now a.inner in StepRoom op a.ids.now (columns_at a.set.now a.plan.now a.inner) k l.src l.dst a.behind × (l.out + emitted_most op k ≤ 4096)
+nested_loop-in_row t c =
+    let a = c.args in
+    let s = c.requires in
+    let l = c.loop-i in
+    let op = operator_of a.node in
+    let k = bound_at a.set.now a.plan.now a.inner in
+    let ds = columns_at a.set.now a.plan.now a.inner in
+    let room = rw s.node_value.1 at s.loop_room in
+    let h = c.loop-i-test.true in (
+      record { below = turn_below l.invariant.0 h op (λ e. keeps_rows op s.node_value.0 e a.ids.now ds k) room.share; apart = omega (arith, building_row l.invariant.0 h, room.apart) },
+      omega (arith, l.invariant.0.few, turns a.m (emitted_most op k) l.i h, s.inner_bound),
+    )
+
+nested_loop-wide : (t : ℕ) (c : nested_loop-After-emitted_width-wo t) → let a = c.args in c.emitted_width-wo.result ≡ length (emitted_columns (operator_of a.node) a.ids.now (columns_at a.set.now a.plan.now a.inner))
+nested_loop-wide t c = let a = c.args in c.emitted_width-wo.ensures ∙ ap (λ (ds : List ℕ). length (emitted_columns (operator_of a.node) a.ids.now ds)) c.requires.node_value.1
+
+nested_loop-grows : (t : ℕ) (c : nested_loop-After-row_step-r t) → c.loop-i.dst + c.row_step-r.result * c.emitted_width-wo.result ≤ c.args.behind
+nested_loop-grows t c =
+    let here-in_row : let a = c.args in let l = c.loop-i in let op = operator_of a.node in let k = bound_at a.set.now a.plan.now a.inner in StepRoom op a.ids.now (columns_at a.set.now a.plan.now a.inner) k l.src l.dst a.behind × (l.out + emitted_most op k ≤ 4096) = let a = c.args in
+    let s = c.requires in
+    let l = c.loop-i in
+    let op = operator_of a.node in
+    let k = bound_at a.set.now a.plan.now a.inner in
+    let ds = columns_at a.set.now a.plan.now a.inner in
+    let room = rw s.node_value.1 at s.loop_room in
+    let h = c.loop-i-test.true in (
+      record { below = turn_below l.invariant.0 h op (λ e. keeps_rows op s.node_value.0 e a.ids.now ds k) room.share; apart = omega (arith, building_row l.invariant.0 h, room.apart) },
+      omega (arith, l.invariant.0.few, turns a.m (emitted_most op k) l.i h, s.inner_bound),
+    ) in
+    let here-wide : let a = c.args in c.emitted_width-wo.result ≡ length (emitted_columns (operator_of a.node) a.ids.now (columns_at a.set.now a.plan.now a.inner)) = let a = c.args in c.emitted_width-wo.ensures ∙ ap (λ (ds : List ℕ). length (emitted_columns (operator_of a.node) a.ids.now ds)) c.requires.node_value.1 in
+    let a = c.args in
+    let s = c.requires in
+    let l = c.loop-i in
+    let op = operator_of a.node in
+    let k = bound_at a.set.now a.plan.now a.inner in
+    let ds = columns_at a.set.now a.plan.now a.inner in
+    let room = rw s.node_value.1 at s.loop_room in
+    let r = c.row_step-r in
+    let ends = turn-ends l.invariant.0 c.loop-i-test.true op (λ e. keeps_rows op s.node_value.0 e a.ids.now ds k) room.share r.result r.ensures.gives.few in
+    omega (arith, ends, (here-in_row).0.apart, ap (λ (x : ℕ). r.result * x) (here-wide))
+
+pub nested_loop-emitted_width-wo-requires : goal.nested_loop-emitted_width-wo-requires
+nested_loop-emitted_width-wo-requires t c = let s = c.requires in (s.node_value.0, s.node_value.2, omega (arith, ap length s.node_value.1, sound-width s.ready_at.sound))
+
+pub nested_loop-find-found-requires : goal.nested_loop-find-found-requires
+nested_loop-find-found-requires t c = c.requires.ready_at.bound
+
+pub nested_loop-loop-i-init : goal.nested_loop-loop-i-init
+nested_loop-loop-i-init t c = (building_start c.args.cells.now refl, refl)
+
+pub nested_loop-row_step-r-requires : goal.nested_loop-row_step-r-requires
+nested_loop-row_step-r-requires t c =
+    let s = c.requires in
+    let r = s.ready_at in
+    let l = c.loop-i in
+    (omega (arith, c.decreases), (c.find-found.ensures, ((s.node_value.0, s.node_value.1, omega (arith, l.invariant.1, s.node_value.3)), (rw s.node_value.1 (nested_loop-in_row t (goal.at.nested_loop-row_step-r-requires t c).In-loop-i).0, record { sound = r.sound; room = rw l.invariant.1 r.room; bound = r.bound }))))
+
+pub nested_loop-overflow_add-out : goal.nested_loop-overflow_add-out
+nested_loop-overflow_add-out t c = omega (arith, (nested_loop-in_row t (goal.at.nested_loop-overflow_add-out t c).In-loop-i).1, c.row_step-r.ensures.gives.few)
+
+pub nested_loop-overflow_mul-dst : goal.nested_loop-overflow_mul-dst
+nested_loop-overflow_mul-dst t c = omega (arith, nested_loop-grows t (goal.at.nested_loop-overflow_mul-dst t c).After-row_step-r, c.ranges.behind)
+
+pub nested_loop-overflow_add-dst : goal.nested_loop-overflow_add-dst
+nested_loop-overflow_add-dst t c = omega (arith, nested_loop-grows t (goal.at.nested_loop-overflow_add-dst t c).After-row_step-r, c.ranges.behind)
+
+pub nested_loop-overflow_add-i : goal.nested_loop-overflow_add-i
+nested_loop-overflow_add-i t c = omega (arith, c.loop-i-test.true, c.ranges.m)
+
+pub nested_loop-overflow_add-src : goal.nested_loop-overflow_add-src
+nested_loop-overflow_add-src t c = omega (arith, (nested_loop-in_row t (goal.at.nested_loop-overflow_add-src t c).In-loop-i).0.apart, c.ranges.behind)
+
+pub nested_loop-loop-i-smaller : goal.nested_loop-loop-i-smaller
+nested_loop-loop-i-smaller t c = omega (arith, c.loop-i-test.true)
+
+pub nested_loop-loop-i-preserved : goal.nested_loop-loop-i-preserved
+nested_loop-loop-i-preserved t c =
+    let a = c.args in
+    let l = c.loop-i in
+    let w = length a.ids.now in
+    let s = c.row_step-r in
+    let last : List ℕ = s.new.cells in
+    let h = c.loop-i-test.true in
+    let left = rows_left_lem a.m w a.own l.i l.src a.behind last l.cells h l.invariant.0.src_at c.requires.loop_room.apart s.ensures.between in
+    (building_turn l.invariant.0 last s.result _ _ h s.ensures.gives s.ensures.before left refl (ap (λ (x : ℕ). l.dst + s.result * x) (nested_loop-wide t (goal.at.nested_loop-loop-i-preserved t c).After-emitted_width-wo)), s.auto.cells ∙ l.invariant.1)
+
+pub nested_loop-shape_of-cells : goal.nested_loop-shape_of-cells
+nested_loop-shape_of-cells t c = c.loop-i.invariant.1
+
+pub nested_loop-returns : goal.nested_loop-returns
+nested_loop-returns t c = building_done c.loop-i.invariant.0 c.loop-i-test.false
+
+-- ---- row_step
+
+row_step-back : (t : ℕ) (c : row_step-After-eval-k t) → let a = c.args in let cells = a.cells.now in let last = c.eval-k.new.cells in (length (put_mid a.behind (length cells - a.behind) cells last) ≡ length cells) × Kid (tables_of a.set.now) (plan_at a.plan.now a.inner) (env_of c.inner_env.new.copy) c.eval-k.result last
+row_step-back t c =
+    let a = c.args in
+    let cells = a.cells.now in
+    let r = c.requires.ready_at in
+    let last = c.eval-k.new.cells in
+    let len : length last ≡ length cells - a.behind = c.eval-k.auto.cells ∙ tail_length a.behind cells in
+    (same_len_mid a.behind (length cells - a.behind) cells last c.eval-k.auto.cells, kid_of (record { sound = r.sound; room = rw len r.room; bound = r.bound }) c.eval-k.ensures)
+
+pub row_step-slice_bounds-inner_env-end : goal.row_step-slice_bounds-inner_env-end
+row_step-slice_bounds-inner_env-end t c = refl
+
+pub row_step-overflow_add-src : goal.row_step-overflow_add-src
+row_step-overflow_add-src t c = omega (arith, c.requires.step_room.apart, c.requires.node_value.2, c.well_formed, c.ranges.behind)
+
+pub row_step-offset_bounds-cells-src : goal.row_step-offset_bounds-cells-src
+row_step-offset_bounds-cells-src t c = omega (arith, c.requires.step_room.apart, c.requires.node_value.2, c.well_formed, c.ranges.behind)
+
+pub row_step-slice_bounds-inner_env-count : goal.row_step-slice_bounds-inner_env-count
+row_step-slice_bounds-inner_env-count t c = omega (arith, c.requires.step_room.apart, c.requires.node_value.2, c.well_formed, c.ranges.behind)
+
+pub row_step-slice_bounds-inner_env-start : goal.row_step-slice_bounds-inner_env-start
+row_step-slice_bounds-inner_env-start t c = omega (arith, c.requires.step_room.apart, c.requires.node_value.2, c.well_formed, c.ranges.behind)
+
+pub row_step-slice_bounds-inner_env-end-2 : goal.row_step-slice_bounds-inner_env-end-2
+row_step-slice_bounds-inner_env-end-2 t c = omega (arith, c.requires.step_room.apart, c.requires.node_value.2, c.well_formed, c.ranges.behind)
+
+pub row_step-inner_env-requires : goal.row_step-inner_env-requires
+row_step-inner_env-requires t c = let a = c.args in let s = c.requires in omega (arith, part_length a.src (length a.ids.now) a.cells.now (omega (arith, s.step_room.apart, c.requires.node_value.2)), s.ready_at.bound)
+
+pub row_step-offset_bounds-cells-behind : goal.row_step-offset_bounds-cells-behind
+row_step-offset_bounds-cells-behind t c = omega (arith, c.requires.node_value.2, c.well_formed)
+
+pub row_step-slice_bounds-eval-count : goal.row_step-slice_bounds-eval-count
+row_step-slice_bounds-eval-count t c = c.requires.node_value.2
+
+pub row_step-slice_bounds-eval-start : goal.row_step-slice_bounds-eval-start
+row_step-slice_bounds-eval-start t c = c.requires.node_value.2
+
+pub row_step-slice_bounds-eval-end-2 : goal.row_step-slice_bounds-eval-end-2
+row_step-slice_bounds-eval-end-2 t c = sym c.inner_env.auto.copy
+
+pub row_step-eval-k-requires : goal.row_step-eval-k-requires
+row_step-eval-k-requires t c =
+    let a = c.args in
+    let r = c.requires.ready_at in
+    (omega (arith, c.decreases), record { sound = r.sound; room = rw (tail_length a.behind a.cells.now) r.room; bound = c.inner_env.auto.copy })
+
+pub row_step-emit_row-requires : goal.row_step-emit_row-requires
+row_step-emit_row-requires t c =
+    let a = c.args in
+    let s = c.requires in
+    let r = s.ready_at in
+    let g = c.eval-k.ensures in
+    let k = c.eval-k.result in record { found_inside = (c.requires.found_for.inside, omega (arith, g.few, sound-bound r.sound), s.node_value.0); step_room = (step_less k s.step_room g.few, omega (arith, s.node_value.2, rows_fit k r g.few, ap (λ (x : List ℕ). k * length x) s.node_value.1, (row_step-back t (goal.at.row_step-emit_row-requires t c).After-eval-k).0)) }
+
+pub row_step-shape_of-cells : goal.row_step-shape_of-cells
+row_step-shape_of-cells t c = c.emit_row.auto.cells ∙ (row_step-back t (goal.at.row_step-shape_of-cells t c).After-eval-k).0
+
+pub row_step-returns : goal.row_step-returns
+row_step-returns t c =
+    let a = c.args in
+    let s = c.requires in
+    let room = s.step_room in
+    let ys = c.eval-k.new.cells in
+    let inside = c.inner_env.ensures ∙ ap (λ (x : Row). bind a.ids.now x (env_of a.env.now)) (sym (part-row a.src (length a.ids.now) a.cells.now)) in
+    step_arm a.cells.now ys a.ids.now a.src a.behind room.apart s.node_value.2 (operator_of a.node) a.jds.now a.env.now s.node_value.1 inside (row_step-back t (goal.at.row_step-returns t c).After-eval-k).1 (omega (arith, room.below)) (c.emit_row.ensures (env_of a.env.now) c.requires.found_for)
