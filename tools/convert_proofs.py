@@ -237,7 +237,14 @@ def convert(path,rel):
             f,tail=fs[1],fs[2]
             if f in('args','requires','ranges','type_inv'):
                 if f=='requires':
-                    if rec: return ('c.requires'+fix_rest(('recreq',),tail)).replace('requiresDECREASES','decreases'),('recreq',) if not tail else None
+                    if rec:
+                        tl=re.match(r"\.1((?:\.1)*)$",tail)
+                        n_=len(sig['req']) if sig else 0
+                        if tl and n_>1 and tl[1].count('.1')<n_-1: return 'c.requires',('reqtail',tl[1].count('.1'))
+                        return ('c.requires'+fix_rest(('recreq',),tail)).replace('requiresDECREASES','decreases'),('recreq',) if not tail else None
+                    tl=re.match(r"((?:\.1)+)$",tail)
+                    n_=len(sig['req']) if sig else 0
+                    if tl and n_>1 and tl[1].count('.1')<n_-1: return 'c.requires',('reqtail',tl[1].count('.1'))
                     return 'c.requires'+fix_rest(('req',),tail),('req',) if not tail else None
                 r='.'+f+tail
                 for a,b in P.args:
@@ -313,18 +320,20 @@ def convert(path,rel):
                                 ty=trans(re.sub(r"^\s*→\s*","",sg[j+1:]),start,goal).strip()
                                 if len(g2['eqs'])!=1 or g2['unf']: log.append(f"{rel}/{goal}: helper {hn} in a helper has {len(g2['eqs'])} equations {g2['unf']}")
                                 hd,b2=re.split(r" =(?=\s)",g2['eqs'][0],maxsplit=1)
-                                extra=[x for x in hd.split()[1:] if x not in('c','κs')]
+                                extra=[x for x in hd.split()[1:] if x not in(('c','κs','t') if rec else ('c','κs'))]
                                 b2=trans(b2,start,goal).strip()
                                 lam=''.join(f"λ {x}. " for x in extra)
                                 here='here-'+hn
                                 if here not in lets: lets[here]=f"let {here} : {ty} = {lam}{b2} in"
                                 # replace the helper's name and what stands between by the let's name
                                 k=res.rstrip().rfind(hn)
-                                res=res[:k]+here+(res[k+len(hn):].rstrip())
+                                mid=res[k+len(hn):].rstrip()
+                                if rec: mid=re.sub(r"^\s+t(?=\s*\(?$)","",mid)
+                                res=res[:k]+here+mid
                                 if res.endswith('('): res=res[:-1]; i=m.end()+ (1 if body[m.end():m.end()+1]==')' else 0); continue
                                 i=m.end(); continue
                             else:
-                                res+=f"(goal.at.{goal} c).{nn}"
+                                res+=f"(goal.at.{goal} {'t ' if rec else ''}c).{nn}"
                     else:
                         if m[1]: log.append(f"{rel}/{goal}: bare {m[0]}")
                         res+=m[0]
@@ -338,7 +347,9 @@ def convert(path,rel):
             m=re.compile(r"([A-Za-z_'][\w'₀-₉]*)((?:\.[\w'+-]+)+)").match(body,i)
             if m and (i==0 or not re.match(r"[\w.'’-]",body[i-1])) and m[1] in varkind:
                 k=varkind[m[1]]
-                if k==('args',):
+                if k[0]=='reqtail':
+                    res+=m[1]+clause_path(sig['req'],'.1'*k[1]+m[2])
+                elif k==('args',):
                     r='.args'+m[2]
                     for a,b in P.args:
                         if r==a or r.startswith(a+'.'): r=b+r[len(a):]
@@ -433,7 +444,7 @@ def convert(path,rel):
             for j in range(at,len(sg)):
                 dd+=sg[j]=='('; dd-=sg[j]==')'
                 if dd==0: break
-            sg=sg[:at]+f"(c : {nn})"+trans(sg[j+1:],pl,'helper:'+name)
+            sg=sg[:at]+f"(c : {nn}{' t' if rec else ''})"+trans(sg[j+1:],pl,'helper:'+name)
             eqs=[]
             for eq in g['eqs']:
                 head,b=re.split(r" =(?=\s)",eq,maxsplit=1)
