@@ -1,8 +1,8 @@
 /* The C interface of the club report plans: report, unnest, stay note, the check of steps made elsewhere, the converter of versions, and the
  * prize fund table.
  *
- * Link with libcabi.a, which `rt staticlib cabi` writes to target/staticlib/ once everything is proved (x86-64 Linux). The archive needs
- * nothing but the C library.
+ * Link with libcabi.a, which `rt lib` in crates/cabi writes to crates/cabi/out/ once everything is proved (Linux on x86-64, of its level v2
+ * or above). The archive needs nothing but the C library.
  *
  * The set of tables, the plan, a list of steps and the plan theirs are any bytes; the purse and the shares are any numbers. A buffer is a
  * pointer and the number of its elements (not of its bytes, where an element is wider than one). What the caller owes: a pointer is not null,

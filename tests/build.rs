@@ -1,4 +1,4 @@
-//! Links the library's archive, if it is there: libcabi.a, where `rt staticlib cabi` writes it (target/staticlib/ of the repository), or
+//! Links the library's archive, if it is there: libcabi.a, where `rt lib` in crates/cabi writes it (crates/cabi/out/ of the repository), or
 //! the file that the variable CLUB_ARCHIVE names. Without it the package has the second evaluator alone.
 
 use std::path::{Path, PathBuf};
@@ -7,7 +7,7 @@ use std::{env, fs};
 fn main() {
     println!("cargo::rustc-check-cfg=cfg(archive)");
     println!("cargo::rerun-if-env-changed=CLUB_ARCHIVE");
-    let usual = Path::new(&env::var("CARGO_MANIFEST_DIR").expect("a folder")).join("../target/staticlib/libcabi.a");
+    let usual = Path::new(&env::var("CARGO_MANIFEST_DIR").expect("a folder")).join("../crates/cabi/out/libcabi.a");
     let archive = env::var_os("CLUB_ARCHIVE").map_or(usual, PathBuf::from);
     println!("cargo::rerun-if-changed={}", archive.display());
     if !archive.exists() {

@@ -572,5 +572,5 @@ mod held {
 #[cfg(not(archive))]
 #[test]
 fn the_archive_is_there() {
-    panic!("no archive: `rt staticlib cabi` writes it to target/staticlib/libcabi.a of the repository");
+    panic!("no archive: `rt lib` in crates/cabi writes it to crates/cabi/out/libcabi.a of the repository");
 }

@@ -72,16 +72,25 @@ fn spec_text(name: &str) -> Option<String> {
 
 // ---- definitions
 
+/// A name as the page writes it: without the marks that a file of specs puts around a word of its language.
+fn bare(name: &str) -> &str {
+    name.strip_prefix('«').and_then(|inside| inside.strip_suffix('»')).unwrap_or(name)
+}
+
 /// The name that a line defines.
 fn defined_on(line: &str) -> Option<&str> {
     let openings = ["abbrev pub ", "unfoldable pub ", "pub data ", "pub record "];
-    let after = openings.iter().find_map(|opening| line.trim_start().strip_prefix(opening))?;
-    after.split_whitespace().next()
+    let line = line.trim_start();
+    let opened = openings.iter().find_map(|opening| line.strip_prefix(opening));
+    // One that no word opens, whose lines below nothing unfolds.
+    let plain = || line.strip_prefix("pub ").filter(|after| !after.starts_with("use ") && !after.starts_with("mod "));
+    opened.or_else(plain)?.split_whitespace().next().map(bare)
 }
 
-/// The definitions of a file of specs.
-fn definitions(text: &str) -> Vec<&str> {
-    text.lines().filter_map(defined_on).collect()
+/// Whether a line begins a data type or a record.
+fn opens_type(line: &str) -> bool {
+    let line = line.trim_start();
+    line.starts_with("pub data ") || line.starts_with("pub record ")
 }
 
 /// How far a line is set in.
@@ -89,21 +98,39 @@ fn indentation(line: &str) -> usize {
     line.len() - line.trim_start().len()
 }
 
+/// The lines below that belong to a data type or a record, given how far its first line is set in. They end at a line that is not set in
+/// deeper, but for an empty one.
+fn body_in<'a>(below: &[&'a str], outer: usize) -> Vec<&'a str> {
+    let inside = below.iter().take_while(|line| line.trim().is_empty() || indentation(line) > outer);
+    inside.copied().collect()
+}
+
+/// The definitions of a file of specs. The fields of a record are none.
+fn definitions(text: &str) -> Vec<&str> {
+    let lines: Vec<&str> = text.lines().collect();
+    let (mut all, mut number) = (Vec::new(), 0);
+    while number < lines.len() {
+        all.extend(defined_on(lines[number]));
+        let inside = opens_type(lines[number]).then(|| body_in(&lines[number + 1..], indentation(lines[number])));
+        number += 1 + inside.map_or(0, |inside| inside.len());
+    }
+    all
+}
+
 /// The constructors of a data type or the fields of a record, given the lines below its first and how far that one is
-/// set in. They end at a line that is not set in deeper; what one goes on with is set in deeper than itself.
+/// set in. What one goes on with is set in deeper than itself.
 fn members_in<'a>(below: &[&'a str], outer: usize) -> Vec<&'a str> {
-    let inside = below.iter().take_while(|line| indentation(line) > outer);
-    let lines: Vec<&str> = inside.filter(|line| !line.trim_start().starts_with("--")).copied().collect();
+    let inside = body_in(below, outer).into_iter().filter(|line| !line.trim().is_empty());
+    let lines: Vec<&str> = inside.filter(|line| !line.trim_start().starts_with("--")).collect();
     let own = lines.first().map_or(0, |line| indentation(line));
     let names = lines.into_iter().filter(|line| indentation(line) == own).filter_map(|line| line.split_once(" : "));
-    names.flat_map(|(names, _)| names.split_whitespace()).filter(|name| *name != "pub").collect()
+    names.flat_map(|(names, _)| names.split_whitespace()).filter(|name| *name != "pub").map(bare).collect()
 }
 
 /// The constructors and the fields of a file of specs.
 fn members(text: &str) -> Vec<&str> {
     let lines: Vec<&str> = text.lines().collect();
-    let opens = |line: &str| line.trim_start().starts_with("pub data ") || line.trim_start().starts_with("pub record ");
-    let openings = (0..lines.len()).filter(|&number| opens(lines[number]));
+    let openings = (0..lines.len()).filter(|&number| opens_type(lines[number]));
     openings.flat_map(|number| members_in(&lines[number + 1..], indentation(lines[number]))).collect()
 }
 
@@ -283,4 +310,8 @@ fn definitions_and_comments_are_read() {
     assert_eq!(definitions(text), ["T", "R", "if_g_"]);
     assert_eq!(members(text), ["a", "b", "c", "f"]);
     assert_eq!(pointers(text.lines()), ["A", "B", "C", "D E"]);
+    let text = "pub mod M\npub use M.{a, b}\nabbrev pub if◌then◌else◌ {ℓ} : {A : Type ℓ} → A\nif◌then◌else◌ a = a\n\
+                pub record R (T : Type 0) : Type 0 where\n  pub f : T\n\n  pub «data» : T\npub plain : T\nunfoldable pub «use» : T\n";
+    assert_eq!(definitions(text), ["if◌then◌else◌", "R", "plain", "use"]);
+    assert_eq!(members(text), ["f", "data"]);
 }

@@ -1,5 +1,5 @@
 //! The listing program, run: on the folders of `listing/`, at the ends of its room, and on random inputs. It has to be built before, by
-//! `rt check listing`.
+//! `rt ci` or by `rt run` in crates/listing.
 
 use second::generate::accepted;
 use second::listings::{large_runs, runs, Run};
@@ -14,8 +14,9 @@ const INPUTS: u64 = 1_000;
 
 /// What the program prints in a folder.
 fn printed(folder: &Path) -> String {
-    let program = Path::new(env!("CARGO_MANIFEST_DIR")).join("../target/bin/listing");
-    let output = Command::new(&program).current_dir(folder).output().expect("the program, built by `rt check listing`");
+    let program = Path::new(env!("CARGO_MANIFEST_DIR")).join("../crates/listing/out/listing");
+    let output = Command::new(&program).current_dir(folder).output();
+    let output = output.expect("the program, built by `rt run` in crates/listing");
     assert!(output.status.success(), "{:?}: {}", folder, output.status);
     String::from_utf8(output.stdout).expect("text")
 }

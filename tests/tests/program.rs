@@ -1,5 +1,5 @@
 //! The converter's program, run in folders of its own: what it writes, what it prints, and that it writes over nothing. It has to be built
-//! before, by `rt check convert`.
+//! before, by `rt ci` or by `rt run` in crates/convert.
 
 use second::convert::{convert, Converted, Way};
 use second::edges::club;
@@ -34,9 +34,9 @@ fn folder(name: &str, set: &[u8], plan: &[u8]) -> PathBuf {
 
 /// What the program prints in a folder, started with these words.
 fn printed(folder: &Path, words: &[&str]) -> String {
-    let program = Path::new(env!("CARGO_MANIFEST_DIR")).join("../target/bin/convert");
+    let program = Path::new(env!("CARGO_MANIFEST_DIR")).join("../crates/convert/out/convert");
     let output = Command::new(program).args(words).current_dir(folder).output();
-    let output = output.expect("the program, built by `rt check convert`");
+    let output = output.expect("the program, built by `rt run` in crates/convert");
     assert!(output.status.success(), "{:?}: {}", folder, output.status);
     String::from_utf8(output.stdout).expect("text")
 }

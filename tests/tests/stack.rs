@@ -236,7 +236,7 @@ fn the_deepest_plans_are_answered_as_by_the_second_evaluator() {
 
 /// Whether the listing program prints a run's text in its folder with so many KiB of stack.
 fn prints(folder: &Path, run: &Run, kib: usize) -> bool {
-    let program = Path::new(env!("CARGO_MANIFEST_DIR")).join("../target/bin/listing");
+    let program = Path::new(env!("CARGO_MANIFEST_DIR")).join("../crates/listing/out/listing");
     let command = format!("ulimit -c 0; ulimit -s {kib}; exec \"$0\"");
     // Variables take stack too.
     let mut shell = Command::new("sh");

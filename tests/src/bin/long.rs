@@ -26,6 +26,6 @@ fn main() {
 
 #[cfg(not(archive))]
 fn main() {
-    eprintln!("no archive: `rt staticlib cabi` writes it");
+    eprintln!("no archive: `rt lib` in crates/cabi writes it");
     std::process::exit(2);
 }
