@@ -19,4 +19,4 @@ convert_accepted-requires c =
 pub returns-in-Refused : goal.returns-in-Refused
 returns-in-Refused c =
     let a = c.args in
-    turned-input a.from a.to a.set.now a.plan.now a.out-set.now a.out-plan.now _ _ (sym c.check_as.ensures ∙ c.in-Refused.is) c.refused.ensures
+    turned-input a.from a.to a.set.now a.plan.now a.out_set.now a.out_plan.now _ _ (sym c.check_as.ensures ∙ c.in-Refused.is) c.refused.ensures

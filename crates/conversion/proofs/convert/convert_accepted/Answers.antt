@@ -17,7 +17,7 @@ set-fit c = sym c.set_fits.ensures ∙ c.if-not-set_fits.false
 plan-fit : (c : Else-not-plan_fits) → plan_fits c.args.to c.args.plan.now ≡ true
 plan-fit c = sym (plan-fits c.args.from c.args.to c.args.plan.now _ c.requires.plan_read c.requires.whole) ∙ (sym c.plan_fits.ensures ∙ c.if-not-plan_fits.false)
 
-set_room_lem : (c : Else-out_set-set_bytes) → length (set_bytes c.args.to c.args.tables c.args.set.now) ≤ length c.args.out-set.now
+set_room_lem : (c : Else-out_set-set_bytes) → length (set_bytes c.args.to c.args.tables c.args.set.now) ≤ length c.args.out_set.now
 set_room_lem c = omega (arith, c.set_size-set_bytes.ensures, c.if-out_set-set_bytes.false)
 
 plan_long : (c : After-plan_size-plan_bytes) → c.plan_size-plan_bytes.result ≡ length (plan_in c.args.to c.args.plan.now)
@@ -26,15 +26,15 @@ plan_long c = c.plan_size-plan_bytes.ensures ∙ sym (plan_size c.args.from c.ar
 pub returns-then-not-set_fits : goal.returns-then-not-set_fits
 returns-then-not-set_fits c =
     let a = c.args in
-    turned a.from a.to a.set.now a.plan.now a.out-set.now a.out-plan.now 25 _ (omega arith)
-    (number-set a.from a.to a.set.now a.plan.now a.out-set.now a.out-plan.now a.tables c.requires.accepted c.requires.set_read (sym c.set_fits.ensures ∙ c.if-not-set_fits.true))
+    turned a.from a.to a.set.now a.plan.now a.out_set.now a.out_plan.now 25 _ (omega arith)
+    (number-set a.from a.to a.set.now a.plan.now a.out_set.now a.out_plan.now a.tables c.requires.accepted c.requires.set_read (sym c.set_fits.ensures ∙ c.if-not-set_fits.true))
     c.refused.ensures
 
 pub returns-then-not-plan_fits : goal.returns-then-not-plan_fits
 returns-then-not-plan_fits c =
     let a = c.args in
-    turned a.from a.to a.set.now a.plan.now a.out-set.now a.out-plan.now 25 _ (omega arith)
-    (number_plan a.from a.to a.set.now a.plan.now a.out-set.now a.out-plan.now a.tables c.requires.accepted c.requires.set_read (set-fit (goal.at.returns-then-not-plan_fits c).Else-not-set_fits)
+    turned a.from a.to a.set.now a.plan.now a.out_set.now a.out_plan.now 25 _ (omega arith)
+    (number_plan a.from a.to a.set.now a.plan.now a.out_set.now a.out_plan.now a.tables c.requires.accepted c.requires.set_read (set-fit (goal.at.returns-then-not-plan_fits c).Else-not-set_fits)
     (sym (plan-fits a.from a.to a.plan.now _ c.requires.plan_read c.requires.whole) ∙ (sym c.plan_fits.ensures ∙ c.if-not-plan_fits.true)))
     c.refused-then-not-plan_fits.ensures
 
@@ -44,16 +44,16 @@ set_size-set_bytes-requires c = let a = c.args in (tables-few a.from a.set.now a
 pub returns-then-out_set-set_bytes : goal.returns-then-out_set-set_bytes
 returns-then-out_set-set_bytes c =
     let a = c.args in
-    turned a.from a.to a.set.now a.plan.now a.out-set.now a.out-plan.now 15 _ (omega arith)
-    (number-set-room a.from a.to a.set.now a.plan.now a.out-set.now a.out-plan.now a.tables c.requires.accepted c.requires.set_read (set-fit (goal.at.returns-then-out_set-set_bytes c).Else-not-set_fits) (plan-fit (goal.at.returns-then-out_set-set_bytes c).Else-not-plan_fits)
+    turned a.from a.to a.set.now a.plan.now a.out_set.now a.out_plan.now 15 _ (omega arith)
+    (number-set-room a.from a.to a.set.now a.plan.now a.out_set.now a.out_plan.now a.tables c.requires.accepted c.requires.set_read (set-fit (goal.at.returns-then-out_set-set_bytes c).Else-not-set_fits) (plan-fit (goal.at.returns-then-out_set-set_bytes c).Else-not-plan_fits)
     (omega (arith, c.set_size-set_bytes.ensures, c.if-out_set-set_bytes.true)))
     c.refused-then-out_set-set_bytes.ensures
 
 pub returns-then-out_plan-plan_bytes : goal.returns-then-out_plan-plan_bytes
 returns-then-out_plan-plan_bytes c =
     let a = c.args in
-    turned a.from a.to a.set.now a.plan.now a.out-set.now a.out-plan.now 15 _ (omega arith)
-    (number_plan_room a.from a.to a.set.now a.plan.now a.out-set.now a.out-plan.now a.tables c.requires.accepted c.requires.set_read (set-fit (goal.at.returns-then-out_plan-plan_bytes c).Else-not-set_fits) (plan-fit (goal.at.returns-then-out_plan-plan_bytes c).Else-not-plan_fits) (set_room_lem (goal.at.returns-then-out_plan-plan_bytes c).Else-out_set-set_bytes)
+    turned a.from a.to a.set.now a.plan.now a.out_set.now a.out_plan.now 15 _ (omega arith)
+    (number_plan_room a.from a.to a.set.now a.plan.now a.out_set.now a.out_plan.now a.tables c.requires.accepted c.requires.set_read (set-fit (goal.at.returns-then-out_plan-plan_bytes c).Else-not-set_fits) (plan-fit (goal.at.returns-then-out_plan-plan_bytes c).Else-not-plan_fits) (set_room_lem (goal.at.returns-then-out_plan-plan_bytes c).Else-out_set-set_bytes)
     (omega (arith, plan_long (goal.at.returns-then-out_plan-plan_bytes c).After-plan_size-plan_bytes, c.if-out_plan-plan_bytes.true)))
     c.refused-then-out_plan-plan_bytes.ensures
 
@@ -71,6 +71,6 @@ write_plan-requires c =
 pub returns : goal.returns
 returns c =
     let a = c.args in
-    converted a.from a.to a.set.now a.plan.now a.out-set.now a.out-plan.now a.tables c.requires.accepted c.requires.set_read (set-fit (goal.at.returns c).Else-not-set_fits) (plan-fit (goal.at.returns c).Else-not-plan_fits) (set_room_lem (goal.at.returns c).Else-out_set-set_bytes) _ _ _
+    converted a.from a.to a.set.now a.plan.now a.out_set.now a.out_plan.now a.tables c.requires.accepted c.requires.set_read (set-fit (goal.at.returns c).Else-not-set_fits) (plan-fit (goal.at.returns c).Else-not-plan_fits) (set_room_lem (goal.at.returns c).Else-out_set-set_bytes) _ _ _
     (omega (arith, plan_long (goal.at.returns c).After-plan_size-plan_bytes, c.if-out_plan-plan_bytes.false)) refl c.set_size-set_bytes.ensures (plan_long (goal.at.returns c).After-plan_size-plan_bytes) c.write_set.ensures
-    (c.write_plan.ensures ∙ ap (bytes_written a.out-plan.now 0) (plan-in a.from a.to a.plan.now _ c.requires.plan_read c.requires.whole))
+    (c.write_plan.ensures ∙ ap (bytes_written a.out_plan.now 0) (plan-in a.from a.to a.plan.now _ c.requires.plan_read c.requires.whole))

@@ -10,4 +10,4 @@ pub returns : goal.returns
 returns c =
     let a = c.args in
     let q : c.cell_size-n.result - 0 ≡ cell_size a.version = omega (arith, c.cell_size-n.ensures.value) in
-    c.write_bytes.ensures ∙ ap (bytes_written a.out.now a.at) (number-part a.version a.w _ _ _ q c.code_of_lem.ensures c.low_bytes-bytes.ensures)
+    c.write_bytes.ensures ∙ ap (bytes_written a.out.now a.at) (number-part a.version a.w _ _ _ q c.code_of.ensures c.low_bytes-bytes.ensures)

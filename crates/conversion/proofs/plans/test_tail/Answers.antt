@@ -19,4 +19,4 @@ returns-in-Columns c = let v = c.args.version in tail_columns v c.in-Columns.com
 pub returns-in-Number : goal.returns-in-Number
 returns-in-Number c =
     let v = c.args.version in
-    tail_number v c.in-Number.comparison c.in-Number.left c.in-Number.number c.low_bytes-b.result (c.low_bytes-b.ensures ∙ ap (low_bytes 8) c.code_of_lem.ensures) ∙ sym (ap (test_tail v) c.in-Number.is)
+    tail_number v c.in-Number.comparison c.in-Number.left c.in-Number.number c.low_bytes-b.result (c.low_bytes-b.ensures ∙ ap (low_bytes 8) c.code_of.ensures) ∙ sym (ap (test_tail v) c.in-Number.is)

@@ -1,4 +1,3 @@
-use mathlib.Core.Logic.{inl, inr}
 use Rattle.prizes.proofs.ClubLines.{club-taken, club-passed, club-end}
 use borrow.Author.Tests.{not-true, not-false}
 use Prim.Native.Nat.{◌-◌}
@@ -7,6 +6,7 @@ use native.Mathlib.Omega.{arith}
 use Rattle.prizes.specs.Helpers.{scores_in}
 use Rattle.prizes.proofs.Amounts.{total-next}
 use Rattle.prizes.proofs.pools.club_line.Goals as goal
+use Rattle.prizes.proofs.pools.club_line.Goals.{then-not-has_number, else-not-has_number}
 
 pub loop-i-init : goal.loop-i-init
 loop-i-init c = (omega arith, omega (arith, c.requires.1))
@@ -26,8 +26,8 @@ loop-i-preserved c =
     let t = total-next a.pence.now l.i h in
     let n = sym c.has_number.ensures in
     elim c.if-not-has_number.branch [
-      | inl w ↦ let k = club-taken s a.pence.now l.i h (n ∙ not-true _ w.0.taken) in (omega (arith, l.invariant.0, k, w.2), omega (arith, l.invariant.1, t, w.2))
-      | inr w ↦ let k = club-passed s a.pence.now l.i h (n ∙ not-false _ w.0.left) in (omega (arith, l.invariant.0, k, w.1), omega (arith, l.invariant.1, t, w.1))
+      | then-not-has_number w ↦ let k = club-taken s a.pence.now l.i h (n ∙ w.if-not-has_number.true) in (omega (arith, l.invariant.0, k, w.line-is), omega (arith, l.invariant.1, t, w.line-is))
+      | else-not-has_number w ↦ let k = club-passed s a.pence.now l.i h (n ∙ w.if-not-has_number.false) in (omega (arith, l.invariant.0, k, w.line-is), omega (arith, l.invariant.1, t, w.line-is))
     ]
 
 pub returns : goal.returns

@@ -9,7 +9,7 @@ use Rattle.unnesting.proofs.Demand3.{input-parts}
 use Rattle.unnesting.proofs.AttemptLaws.{finds_nothing, finds_step}
 use Rattle.unnesting.proofs.RunLaws.{front-written, front-part, running_start, held, running_short, running_end, running_room, running_step}
 use Rattle.unnesting.proofs.run.run.Goals as goal
-use Rattle.unnesting.proofs.run.run.Goals.{At-loop-needed, In-Step-2, In-loop-needed}
+use Rattle.unnesting.proofs.run.run.Goals.{At-loop-needed, In-Step, In-loop-needed}
 
 whole : (c : At-loop-needed) → take (c.loop-needed.bytes - 0) c.loop-needed.current ≡ take c.loop-needed.bytes c.loop-needed.current
 whole c = let z : c.loop-needed.bytes - 0 ≡ c.loop-needed.bytes = omega arith in rw z
@@ -17,10 +17,10 @@ whole c = let z : c.loop-needed.bytes - 0 ≡ c.loop-needed.bytes = omega arith 
 fits : (c : In-loop-needed) → c.loop-needed.needed ≤ length c.args.scratch.now
 fits c = omega (arith, c.loop-needed-test.true, c.loop-needed.invariant.3)
 
-step : (c : In-Step-2) → Smallest c.args.set.now c.smallest_step.new.out (plan_of (take (c.loop-needed.bytes - 0) c.loop-needed.current)) c.in-Step.rule c.in-Step.place c.in-Step.length c.in-Step.need
+step : (c : In-Step) → Smallest c.args.set.now c.smallest_step.new.out (plan_of (take (c.loop-needed.bytes - 0) c.loop-needed.current)) c.in-Step.rule c.in-Step.place c.in-Step.length c.in-Step.need
 step c = finds_step _ _ _ _ _ _ _ _ c.smallest_step.ensures c.in-Step.is
 
-room : (c : In-Step-2) → c.loop-needed.count + 1 ≤ 192
+room : (c : In-Step) → c.loop-needed.count + 1 ≤ 192
 room c =
     let here-whole : take (c.loop-needed.bytes - 0) c.loop-needed.current ≡ take c.loop-needed.bytes c.loop-needed.current = let z : c.loop-needed.bytes - 0 ≡ c.loop-needed.bytes = omega arith in rw z in
     let here-fits : c.loop-needed.needed ≤ length c.args.scratch.now = omega (arith, c.loop-needed-test.true, c.loop-needed.invariant.3) in
@@ -53,26 +53,26 @@ returns-in-Nothing c =
     running_end a.set.now a.plan.now c.requires.plan_value.0 _ _ _ _ _ _ _ l.invariant.4 (whole (goal.at.returns-in-Nothing c).At-loop-needed) (fits (goal.at.returns-in-Nothing c).In-loop-needed) (omega (arith, l.invariant.0, c.requires.current_len.0, c.write_bytes.auto.out)) (finds_nothing _ _ _ _ c.smallest_step.ensures c.in-Nothing.is)
 
 pub write_step-requires : goal.write_step-requires
-write_step-requires c = omega (arith, room (goal.at.write_step-requires c).In-Step-2, c.loop-needed.invariant.2, c.requires.current_len.2)
+write_step-requires c = omega (arith, room (goal.at.write_step-requires c).In-Step, c.loop-needed.invariant.2, c.requires.current_len.2)
 
 pub slice_bounds-write_bytes-end : goal.slice_bounds-write_bytes-end
-slice_bounds-write_bytes-end c = omega (arith, (step (goal.at.slice_bounds-write_bytes-end c).In-Step-2).left.stored.short, c.smallest_step.auto.out, c.loop-needed.invariant.1, c.requires.current_len.1)
+slice_bounds-write_bytes-end c = omega (arith, (step (goal.at.slice_bounds-write_bytes-end c).In-Step).left.stored.short, c.smallest_step.auto.out, c.loop-needed.invariant.1, c.requires.current_len.1)
 
 pub write_bytes-requires-in-Step : goal.write_bytes-requires-in-Step
-write_bytes-requires-in-Step c = omega (arith, length-take (c.in-Step.length - 0) c.smallest_step.new.out, (step (goal.at.write_bytes-requires-in-Step c).In-Step-2).left.stored.short, c.loop-needed.invariant.0, c.requires.current_len.0, c.write_bytes.auto.out)
+write_bytes-requires-in-Step c = omega (arith, length-take (c.in-Step.length - 0) c.smallest_step.new.out, (step (goal.at.write_bytes-requires-in-Step c).In-Step).left.stored.short, c.loop-needed.invariant.0, c.requires.current_len.0, c.write_bytes.auto.out)
 
 pub overflow_add-count : goal.overflow_add-count
-overflow_add-count c = omega (arith, room (goal.at.overflow_add-count c).In-Step-2)
+overflow_add-count c = omega (arith, room (goal.at.overflow_add-count c).In-Step)
 
 pub loop-needed-smaller : goal.loop-needed-smaller
-loop-needed-smaller c = omega (arith, room (goal.at.loop-needed-smaller c).In-Step-2)
+loop-needed-smaller c = omega (arith, room (goal.at.loop-needed-smaller c).In-Step)
 
 pub loop-needed-preserved : goal.loop-needed-preserved
 loop-needed-preserved c =
     let a = c.args in
     let l = c.loop-needed in
     let e = c.smallest_step in
-    let n = step (goal.at.loop-needed-preserved c).In-Step-2 in
+    let n = step (goal.at.loop-needed-preserved c).In-Step in
     (omega (arith, l.invariant.0, c.write_bytes-in-Step.auto.out), omega (arith, l.invariant.1, e.auto.out), omega (arith, l.invariant.2, c.write_step.auto.steps), omega (arith, l.invariant.3, e.auto.scratch), running_step a.set.now a.plan.now c.requires.plan_value.0 _ _ _ _ _ _ _ l.invariant.4 (whole (goal.at.loop-needed-preserved c).At-loop-needed) (fits (goal.at.loop-needed-preserved c).In-loop-needed) _ _ _ _ _ n _ _ (ap (take c.in-Step.length) c.write_bytes-in-Step.ensures ∙ front-part l.current e.new.out c.in-Step.length (omega (arith, n.left.stored.short, e.auto.out, l.invariant.1, c.requires.current_len.1))) c.write_step.ensures)
 
 pub returns : goal.returns

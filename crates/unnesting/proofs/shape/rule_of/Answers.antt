@@ -40,5 +40,5 @@ returns-in-12 c = rw c.in-12.is
 
 pub returns-in_default : goal.returns-in_default
 returns-in_default c =
-    let h = c.in_default.rest in
+    let h = c.in_default.in_default-own.rest in
     no-rule c.args.node c.args.node.kind h.0.0.0.0.0.0.1 h.0.0.0.0.0.1 h.0.0.0.0.1 h.0.0.0.1 h.0.0.1 h.0.1 h.1

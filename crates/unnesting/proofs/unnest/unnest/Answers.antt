@@ -14,4 +14,4 @@ unnest_accepted-requires c =
 pub returns-in-Refused : goal.returns-in-Refused
 returns-in-Refused c =
     let a = c.args in
-    turned-back a.set.now a.plan.now a.out-plan.now a.out-steps.now a.scratch.now a.scratch.now _ _ _ _ (sym c.check_input.ensures ∙ c.in-Refused.is) c.refused.ensures refl
+    turned-back a.set.now a.plan.now a.out_plan.now a.out_steps.now a.scratch.now a.scratch.now _ _ _ _ (sym c.check_input.ensures ∙ c.in-Refused.is) c.refused.ensures refl

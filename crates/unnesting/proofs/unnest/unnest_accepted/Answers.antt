@@ -27,12 +27,12 @@ run-ran-requires c =
 pub returns-then-not-ran : goal.returns-then-not-ran
 returns-then-not-ran c =
     let a = c.args in
-    short_scratch a.set.now a.plan.now a.out-plan.now a.out-steps.now a.scratch.now _ _ _ _ c.requires.0 (clean (goal.at.returns-then-not-ran c).After-clear) (runs-short c.run-ran.result.enough c.args.set.now c.args.plan.now (length c.args.scratch.now) c.run-ran.new.current c.run-ran.new.steps c.run-ran.result.steps c.run-ran.result.length c.run-ran.ensures (not-true _ c.if-not-ran.true)) c.refused.ensures
+    short_scratch a.set.now a.plan.now a.out_plan.now a.out_steps.now a.scratch.now _ _ _ _ c.requires.0 (clean (goal.at.returns-then-not-ran c).After-clear) (runs-short c.run-ran.result.enough c.args.set.now c.args.plan.now (length c.args.scratch.now) c.run-ran.new.current c.run-ran.new.steps c.run-ran.result.steps c.run-ran.result.length c.run-ran.ensures (not-true _ c.if-not-ran.true)) c.refused.ensures
 
 pub returns-then-out_plan-bytes : goal.returns-then-out_plan-bytes
 returns-then-out_plan-bytes c =
     let a = c.args in
-    short_plan a.set.now a.plan.now a.out-plan.now a.out-steps.now a.scratch.now _ _ _ _ c.requires.0 (clean (goal.at.returns-then-out_plan-bytes c).After-clear) (ended (goal.at.returns-then-out_plan-bytes c).Else-not-ran).enough (omega (arith, c.if-out_plan-bytes.true, (ended (goal.at.returns-then-out_plan-bytes c).Else-not-ran).bytes)) c.refused-then-out_plan-bytes.ensures
+    short_plan a.set.now a.plan.now a.out_plan.now a.out_steps.now a.scratch.now _ _ _ _ c.requires.0 (clean (goal.at.returns-then-out_plan-bytes c).After-clear) (ended (goal.at.returns-then-out_plan-bytes c).Else-not-ran).enough (omega (arith, c.if-out_plan-bytes.true, (ended (goal.at.returns-then-out_plan-bytes c).Else-not-ran).bytes)) c.refused-then-out_plan-bytes.ensures
 
 pub overflow_mul-count : goal.overflow_mul-count
 overflow_mul-count c = omega (arith, few (goal.at.overflow_mul-count c).Else-not-ran)
@@ -40,7 +40,7 @@ overflow_mul-count c = omega (arith, few (goal.at.overflow_mul-count c).Else-not
 pub returns-then-out_steps-count : goal.returns-then-out_steps-count
 returns-then-out_steps-count c =
     let a = c.args in
-    short-steps a.set.now a.plan.now a.out-plan.now a.out-steps.now a.scratch.now _ _ _ _ c.requires.0 (clean (goal.at.returns-then-out_steps-count c).After-clear) (ended (goal.at.returns-then-out_steps-count c).Else-not-ran).enough (omega (arith, c.if-out_plan-bytes.false, (ended (goal.at.returns-then-out_steps-count c).Else-not-ran).bytes)) (omega (arith, c.if-out_steps-count.true, ended-count a.set.now a.plan.now c.requires.0 _ _ _ _ _ (ended (goal.at.returns-then-out_steps-count c).Else-not-ran))) c.refused-then-out_steps-count.ensures
+    short-steps a.set.now a.plan.now a.out_plan.now a.out_steps.now a.scratch.now _ _ _ _ c.requires.0 (clean (goal.at.returns-then-out_steps-count c).After-clear) (ended (goal.at.returns-then-out_steps-count c).Else-not-ran).enough (omega (arith, c.if-out_plan-bytes.false, (ended (goal.at.returns-then-out_steps-count c).Else-not-ran).bytes)) (omega (arith, c.if-out_steps-count.true, ended-count a.set.now a.plan.now c.requires.0 _ _ _ _ _ (ended (goal.at.returns-then-out_steps-count c).Else-not-ran))) c.refused-then-out_steps-count.ensures
 
 pub slice_bounds-write_bytes-end : goal.slice_bounds-write_bytes-end
 slice_bounds-write_bytes-end c = omega (arith, ended-short c.args.set.now c.args.plan.now c.requires.0 _ _ _ _ _ (ended (goal.at.slice_bounds-write_bytes-end c).Else-not-ran), c.run-ran.auto.current)
@@ -55,4 +55,4 @@ pub returns : goal.returns
 returns c =
     let a = c.args in
     let d = ended (goal.at.returns c).Else-not-ran in
-    unnested a.set.now a.plan.now a.out-plan.now a.out-steps.now a.scratch.now _ _ _ _ c.requires.0 (clean (goal.at.returns c).After-clear) d.enough _ _ (omega (arith, c.if-out_plan-bytes.false, d.bytes)) (omega (arith, c.if-out_steps-count.false, ended-count a.set.now a.plan.now c.requires.0 _ _ _ _ _ d)) refl d.counted d.bytes (c.write_bytes.ensures ∙ ended_plan a.set.now a.plan.now c.requires.0 _ _ _ _ _ d _) (c.write_bytes-2.ensures ∙ ended-steps a.set.now a.plan.now c.requires.0 _ _ _ _ _ d _)
+    unnested a.set.now a.plan.now a.out_plan.now a.out_steps.now a.scratch.now _ _ _ _ c.requires.0 (clean (goal.at.returns c).After-clear) d.enough _ _ (omega (arith, c.if-out_plan-bytes.false, d.bytes)) (omega (arith, c.if-out_steps-count.false, ended-count a.set.now a.plan.now c.requires.0 _ _ _ _ _ d)) refl d.counted d.bytes (c.write_bytes.ensures ∙ ended_plan a.set.now a.plan.now c.requires.0 _ _ _ _ _ d _) (c.write_bytes-2.ensures ∙ ended-steps a.set.now a.plan.now c.requires.0 _ _ _ _ _ d _)
