@@ -76,3 +76,6 @@ module _ (z : ℤ) (f : SFits w64 z) where
     unfolding shown_of
     shown-number d =
         ap Number is-number ∙ sym (ap shown_of positive.1 ∙ rw (ne_eqb positive.0 9223372036854775807 (λ e. d (is-number ∙ e))))
+
+-- how each kind of code is printed
+pub ruleset shown = (shown-blank, shown-below, shown_off_scale, shown-number)
