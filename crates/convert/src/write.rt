@@ -1,40 +1,74 @@
 // The two files that the program writes: both, or neither.
+use std::fs::OpenOptions;
+use std::io::Write;
+use std::rt::Files;
+use std::{fs, io};
 
-// Writes bytes to an open file and closes it, and says whether all were written.
-fn fill(file: i32, bytes: &[u8]) -> bool {
-    let all = io::write_all(file, bytes);
-    libc::close(file);
-    all
+const SET: &str = "converted.tbl";
+
+const PLAN: &str = "converted.rpt";
+
+// Makes a file, open for writing. It fails where the name is taken.
+fn create<R: Files>(rt: &R, name: &str) -> io::Result<R::File> {
+    OpenOptions::new()
+        .write(true)
+        .create_new(true)
+        .open(rt, name)
 }
 
-// Writes both to open files. Where one cannot be written, neither is left.
-fn fill_both(set_file: i32, plan_file: i32, set: &[u8], plan: &[u8]) -> bool {
+// Says on standard error what failed, and why.
+fn fail(rt: &impl Eprint, what: &str, error: io::Error) {
+    let _ = eprintln!(rt; "{what}: {error}");
+}
+
+// Removes a file that the program has made, as far as it can.
+fn unlink(rt: &impl Files, name: &str) {
+    let _ = fs::remove_file(rt, name);
+}
+
+// Writes bytes to an open file and closes it. An error is that not all were written.
+fn fill(mut file: impl Write + Drop, bytes: &[u8]) -> io::Result<()> {
+    file.write_all(bytes)
+}
+
+// Writes both to open files, and says whether all of both was written. Where one cannot be written, neither is left.
+fn fill_both<R: Files + Eprint>(
+    rt: &R,
+    set_file: R::File,
+    plan_file: R::File,
+    set: &[u8],
+    plan: &[u8],
+) -> bool {
     let set_written = fill(set_file, set);
     let plan_written = fill(plan_file, plan);
-    if set_written {
-        if plan_written {
-            return true;
+    match plan_written.and(set_written) {
+        Ok(()) => true,
+        Err(e) => {
+            fail(rt, "converted.tbl, converted.rpt", e);
+            unlink(rt, SET);
+            unlink(rt, PLAN);
+            false
         }
     }
-    os::fail(b"converted.tbl, converted.rpt");
-    os::unlink(b"converted.tbl");
-    os::unlink(b"converted.rpt");
-    false
 }
 
 // Makes both files and writes them, and says whether it did. A name that is taken is left as it is, and then nothing is written.
-pub(crate) fn write_both(set: &[u8], plan: &[u8]) -> bool {
-    let set_file = os::create(b"converted.tbl");
-    if set_file < 0 {
-        os::fail(b"converted.tbl");
-        return false;
-    }
-    let plan_file = os::create(b"converted.rpt");
-    if plan_file < 0 {
-        os::fail(b"converted.rpt");
-        libc::close(set_file);
-        os::unlink(b"converted.tbl");
-        return false;
-    }
-    fill_both(set_file, plan_file, set, plan)
+pub(crate) fn write_both(rt: &(impl Files + Eprint), set: &[u8], plan: &[u8]) -> bool {
+    let set_file = match create(rt, SET) {
+        Ok(file) => file,
+        Err(e) => {
+            fail(rt, SET, e);
+            return false;
+        }
+    };
+    let plan_file = match create(rt, PLAN) {
+        Ok(file) => file,
+        Err(e) => {
+            fail(rt, PLAN, e);
+            drop(set_file);
+            unlink(rt, SET);
+            return false;
+        }
+    };
+    fill_both(rt, set_file, plan_file, set, plan)
 }

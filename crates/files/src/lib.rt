@@ -1,20 +1,42 @@
-// What the programs share: reading a file of the working folder, and the buffer for a set.
+// What the programs share: reading a file of the working folder, or any other input, into a buffer, and the buffer for a set.
 #![tactic(auto)]
 
-ghost use Rattle.io.specs.Counts.{IsPrefixLen};
-ghost use Rattle.std.specs.Prelude.{◌≡◌, length};
+ghost use Rattle.files.specs.Counts.{IsPrefixLen};
+ghost use Rattle.std.specs.Io.KnownBytes.{Consumes};
+ghost use Rattle.std.specs.Prelude.{◌≡◌, length, take};
+
+use std::fs::File;
+use std::io::Read;
+use std::rt::Files;
+use std::str;
 
 // Puts a file's bytes at the front of a buffer, as far as it goes, and says how many there are: none where the file cannot be read.
-pub fn read_file(name: &[u8], buffer: &mut [u8]) -> usize
+// A name that is not UTF-8 counts as that of no file, since std opens files by text alone.
+pub fn read_file(rt: &impl Files, name: &[u8], buffer: &mut [u8]) -> usize
     ensures { IsPrefixLen result buffer.new }
 {
-    let file = os::open_read(name);
-    if file < 0 {
+    let Ok(path) = str::from_utf8(name) else {
         return 0;
+    };
+    match File::open(rt, path) {
+        Ok(mut file) => read_full(&mut file, buffer),
+        Err(_) => 0,
     }
-    let got = io::read_full(file, buffer);
-    libc::close(file);
-    got
+}
+
+// Reads until the buffer is full, the input ends or a read fails, and says how many bytes stand at the buffer's front.
+pub fn read_full<R: Read>(reader: &mut R, buffer: &mut [u8]) -> usize
+    ensures in_bounds { IsPrefixLen result buffer.new }
+    ensures bytes { Consumes (R.remaining reader.old) (R.remaining reader.new) (take result buffer.new) }
+{
+    let mut done = 0;
+    while done < buffer.len() {
+        match reader.read(&mut buffer[done..]) {
+            Ok(0) | Err(_) => break,
+            Ok(n) => done += n,
+        }
+    }
+    done
 }
 
 // One byte more than the longest set of eight tables. Of a longer file only these bytes are read, and the answer is that for the whole:

@@ -4,11 +4,10 @@ use mathlib.Core.Path.{◌≡◌, refl, sym, ap, subst, ◌∙◌}
 use mathlib.Core.Bool.{true, false, false≢true}
 use native.Mathlib.Omega.{arith}
 use borrow.Author.Tests.{ltb-true, le-ltb, eq-eqb, ne_eqb}
-use lib.Dec.{T}
 use lib.IntN.{ℤ, pos, negsuc, ◌-ℤ◌, nat_abs}
-use lib.Signed.{non_neg, lt_z}
+use lib.Signed.{lt_z}
 use mir.Syntax.{w64}
-use mir.Val.{Fits, SFits, to_z, of_z}
+use mir.Val.{SFits, to_z, of_z}
 use mir.Facts.{to_z-of_z}
 use Rattle.listing.specs.Listing.{shown_of}
 use Rattle.listing.specs.declared.cell.Shown.TheVariants.{Blank, OffScale, BelowZero, Number}
@@ -41,20 +40,14 @@ module _ (z : ℤ) (f : SFits w64 z) where
     small : negative.0 < 9223372036854775808
     small = (subst (λ (x : ℤ). SFits w64 x) negative.1 f).sfits
 
-    pub below-fits : SFits w64 (negsuc 0 -ℤ to_z w64 (of_z w64 z))
+    below-fits : SFits w64 (negsuc 0 -ℤ to_z w64 (of_z w64 z))
     below-fits = subst (λ (x : ℤ). SFits w64 x) (sym lies) (record { sfits = small })
 
     stored : to_z w64 (of_z w64 (negsuc 0 -ℤ to_z w64 (of_z w64 z))) ≡ pos negative.0
     stored = to_z-of_z below-fits ∙ lies
 
-    pub below_cast : T (non_neg (to_z w64 (of_z w64 (negsuc 0 -ℤ to_z w64 (of_z w64 z))))) × Fits w64 (nat_abs (to_z w64 (of_z w64 (negsuc 0 -ℤ to_z w64 (of_z w64 z)))))
-    below_cast = subst (λ (x : ℤ). T (non_neg x) × Fits w64 (nat_abs x)) (sym stored) (tt, omega (arith, small))
-
     size : nat_abs (to_z w64 (of_z w64 (negsuc 0 -ℤ to_z w64 (of_z w64 z)))) ≡ negative.0
     size = ap nat_abs stored
-
-    pub size_fits : Fits w64 (nat_abs (to_z w64 (of_z w64 (negsuc 0 -ℤ to_z w64 (of_z w64 z)))) + 1)
-    size_fits = omega (arith, size, small)
 
     pub shown-blank : nat_abs (to_z w64 (of_z w64 (negsuc 0 -ℤ to_z w64 (of_z w64 z)))) ≡ 9223372036854775807 → Blank ≡ shown_of z
     unfolding shown_of
@@ -72,11 +65,6 @@ module _ (z : ℤ) (f : SFits w64 z) where
     positive : (n : ℕ) × (z ≡ pos n)
     positive = not-below z (ap (λ (x : ℤ). lt_z x (pos 0)) (sym read) ∙ h)
 
-    pub number_cast : T (non_neg (to_z w64 (of_z w64 z))) × Fits w64 (nat_abs (to_z w64 (of_z w64 z)))
-    number_cast =
-        let small : positive.0 < 9223372036854775808 = (subst (λ (x : ℤ). SFits w64 x) positive.1 f).sfits in
-        subst (λ (x : ℤ). T (non_neg x) × Fits w64 (nat_abs x)) (sym (read ∙ positive.1)) (tt, omega (arith, small))
-
     is-number : nat_abs (to_z w64 (of_z w64 z)) ≡ positive.0
     is-number = ap nat_abs (read ∙ positive.1)
 
@@ -88,3 +76,6 @@ module _ (z : ℤ) (f : SFits w64 z) where
     unfolding shown_of
     shown-number d =
         ap Number is-number ∙ sym (ap shown_of positive.1 ∙ rw (ne_eqb positive.0 9223372036854775807 (λ e. d (is-number ∙ e))))
+
+-- how each kind of code is printed
+pub ruleset shown = (shown-blank, shown-below, shown_off_scale, shown-number)

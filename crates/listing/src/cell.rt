@@ -12,6 +12,7 @@ pub(crate) enum Shown {
 }
 
 // By the cell's code. A code below zero is looked at by how far it lies below -1, which fits where its size may not.
+#[tactic(auto, using(crate::proofs::CellLaws::shown))]
 pub(crate) fn cell_shown(code: i64) -> Shown
     ensures { result ≡ shown_of code }
 {

@@ -14,32 +14,32 @@ use reporting::report::report;
 use unnesting::unnest::unnest;
 
 // Lists a set and a plan. Nothing is printed before both calls have answered.
-fn list(set: &[u8], plan: &[u8]) {
+fn list(rt: &impl Print, set: &[u8], plan: &[u8]) {
     let mut last = [0u8; 2054];
     let mut steps = [0u8; 384];
     let mut scratch = scratch_cells();
     let unnested = unnest(set, plan, &mut last, &mut steps, &mut scratch);
     let turned_back = unnested.refusal;
     if turned_back != 0 {
-        show_refusal(turned_back);
+        show_refusal(rt, turned_back);
         return;
     }
     let mut codes = report_codes();
     let answer = report(set, head(&last, unnested.bytes), &mut codes, &mut scratch);
     let refusal = answer.refusal;
     if refusal != 0 {
-        show_refusal(refusal);
+        show_refusal(rt, refusal);
         return;
     }
-    show_steps(&steps, unnested.steps);
-    show_report(&codes, answer.rows, answer.columns);
+    show_steps(rt, &steps, unnested.steps);
+    show_report(rt, &codes, answer.rows, answer.columns);
 }
 
 // The plan's buffer has one byte more than the longest plan, so that a longer file is turned back as the whole of it would be.
-fn main() {
+fn main(rt: HostRuntime) {
     let mut set = set_bytes();
     let mut plan = [0u8; 2055];
-    let set_length = read_file(b"club.tbl", &mut set);
-    let plan_length = read_file(b"club.rpt", &mut plan);
-    list(head(&set, set_length), head(&plan, plan_length));
+    let set_length = read_file(&rt, b"club.tbl", &mut set);
+    let plan_length = read_file(&rt, b"club.rpt", &mut plan);
+    list(&rt, head(&set, set_length), head(&plan, plan_length));
 }

@@ -1,21 +1,15 @@
 // Reads cases from standard input and prints what reporting gives for each: a refusal's number, or the counts and the cells of the report,
 // each cell as its code plus 2^63. A case is the set's length and the plan's, 32 bits each, low byte first, then the bytes of both.
+// What cannot be printed is lost, and the program goes on.
 #![tactic(auto)]
 
 ghost use Rattle.std.specs.Prelude.{◌≡◌, ◌<◌, length};
 
-use libc::{STDIN_FILENO, STDOUT_FILENO};
+use files::read_full;
 use reading::bytes::{byte_at, head};
 use reporting::report::report;
 use reporting::subplan::rows_at;
-
-fn text(s: &[u8]) {
-    io::write_all(STDOUT_FILENO, s);
-}
-
-fn number(n: u64) {
-    io::print_decimal(STDOUT_FILENO, n);
-}
+use std::io::Read;
 
 // The length at a place of a case's header. Of its 32 bits the upper 16 are 0 in every case.
 fn length_at(header: &[u8], i: usize) -> usize
@@ -25,56 +19,48 @@ fn length_at(header: &[u8], i: usize) -> usize
 }
 
 // Prints a row of cells from a place on, as far as there are cells, and gives the place after it.
-fn show_row(cells: &[u64], at: usize, columns: usize) -> usize {
+fn show_row(rt: &impl Print, cells: &[u64], at: usize, columns: usize) -> usize {
     let mut next = at;
-    let mut j = 0;
-    while j < columns {
+    for _ in 0..columns {
         if cells.len() <= next {
             return next;
         }
-        text(b" ");
-        number(cells[next]);
+        let cell = cells[next];
+        let _ = print!(rt; " {cell}");
         next += 1;
-        j += 1;
     }
     next
 }
 
-fn show_rows(cells: &[u64], rows: usize, columns: usize) {
+fn show_rows(rt: &impl Print, cells: &[u64], rows: usize, columns: usize) {
     let mut at = 0;
-    let mut i = 0;
-    while i < rows {
-        let next = show_row(cells, at, columns);
-        at = next;
-        i += 1;
+    for _ in 0..rows {
+        at = show_row(rt, cells, at, columns);
     }
 }
 
 // The report's number and counts by the reporting call, and its cells by the call for the rows at a place.
-fn show(set: &[u8], plan: &[u8], out: &mut [i64], scratch: &mut [u64]) {
+fn show(rt: &impl Print, set: &[u8], plan: &[u8], out: &mut [i64], scratch: &mut [u64]) {
     let answer = report(set, plan, out, scratch);
     let refusal = answer.refusal;
     if refusal != 0 {
-        text(b"refused ");
-        number(refusal as u64);
-        text(b"\n");
+        let _ = println!(rt; "refused {refusal}");
         return;
     }
-    text(b"rows ");
-    number(answer.rows as u64);
-    text(b" columns ");
-    number(answer.columns as u64);
+    let rows = answer.rows;
+    let columns = answer.columns;
+    let _ = print!(rt; "rows {rows} columns {columns}");
     let given = rows_at(set, plan, 0, scratch);
-    show_rows(scratch, given.rows, given.columns);
-    text(b"\n");
+    show_rows(rt, scratch, given.rows, given.columns);
+    let _ = println!(rt);
 }
 
 // Reads n bytes to the front of a buffer, and whether it has room for them.
-fn fill(buffer: &mut [u8], n: usize) -> bool {
+fn fill(input: &mut impl Read, buffer: &mut [u8], n: usize) -> bool {
     if buffer.len() < n {
         return false;
     }
-    io::read_full(STDIN_FILENO, &mut buffer[..n]);
+    read_full(input, &mut buffer[..n]);
     true
 }
 
@@ -91,35 +77,30 @@ fn cells() -> [u64; 16384]
 }
 
 // Shows the next case, and whether there was one.
-fn next_case() -> bool {
+fn next_case(rt: &impl Print, input: &mut impl Read) -> bool {
     let mut header = [0u8; 8];
-    let got = io::read_full(STDIN_FILENO, &mut header);
-    if got < 8 {
+    if read_full(input, &mut header) < 8 {
         return false;
     }
     let a = length_at(&header, 0);
     let b = length_at(&header, 4);
-    let mut set = io::large_buffer();
-    let mut plan = io::buffer();
-    if !fill(&mut set, a) {
-        return false;
-    }
-    if !fill(&mut plan, b) {
+    let mut set = [0u8; 65536];
+    let mut plan = [0u8; 4096];
+    if !fill(input, &mut set, a) || !fill(input, &mut plan, b) {
         return false;
     }
     let mut out = output();
     let mut scratch = cells();
-    show(head(&set, a), head(&plan, b), &mut out, &mut scratch);
+    show(rt, head(&set, a), head(&plan, b), &mut out, &mut scratch);
     true
 }
 
 // At most 4,096 cases.
-fn main() {
-    let mut left = 4096usize;
-    while 0 < left {
-        if !next_case() {
+fn main(rt: HostRuntime) {
+    let mut input = rt.reader();
+    for _ in 0..4096 {
+        if !next_case(&rt, &mut input) {
             return;
         }
-        left -= 1;
     }
 }

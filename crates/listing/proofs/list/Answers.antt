@@ -1,0 +1,10 @@
+-- What an answer says is written lies inside its buffer, whose length the call leaves as it was.
+use Rattle.std.proofs.Common.{arith}
+use Rattle.listing.proofs.RoomLaws.{report-room, steps-room}
+use Rattle.listing.proofs.list.Goals as goal
+
+pub show_steps-requires : goal.show_steps-requires
+show_steps-requires g c = omega (arith, steps-room c.unnest-unnested.ensures c.if-turned_back-ne0.false, c.unnest-unnested.auto.out_steps)
+
+pub show_report-requires : goal.show_report-requires
+show_report-requires g c = omega (arith, report-room c.report-answer.ensures c.if-refusal-ne0.false, c.report-answer.auto.out)
