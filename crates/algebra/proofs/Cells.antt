@@ -1,4 +1,5 @@
 -- Laws of comparisons and of the count. Assumes nothing.
+use Rattle.std.specs.Prelude.{if◌then◌else◌}
 use Prim.Native.Nat.{ℕ, ◌+◌, ◌≤◌}
 use mathlib.Core.Bool.{Bool, true, false, not}
 use mathlib.Core.Logic.{◌⊎◌, inl, inr}
@@ -6,7 +7,6 @@ use mathlib.Core.Path.{◌≡◌, refl, ap, sym, ◌∙◌}
 use native.Mathlib.Omega.{arith}
 use lib.Dec.{eqb, ltb, leb}
 use borrow.Author.Tests.{eqb-true, eqb-false, eq-eqb, ne_eqb, ltb-true, ltb-false, lt-ltb, le-ltb}
-use Rattle.algebra.specs.Lists.{if◌then◌else◌}
 use Rattle.algebra.specs.Cells.{Comparison, eq, ne, lt, le, gt, ge, blank, off_scale, origin, is_number, is_unequal, order, compares, turn}
 
 pub eqb-sym : (a b : ℕ) → eqb a b ≡ eqb b a

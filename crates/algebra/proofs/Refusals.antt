@@ -1,4 +1,5 @@
 -- What the refusals give of a plan that none of them turns back. Assumes nothing.
+use Rattle.std.specs.Prelude.{if◌then◌else◌}
 use Prim.Native.Nat.{ℕ, suc, ◌≤◌}
 use mathlib.Core.Bool.{Bool, true, false, not, ◌&&◌, and-eq-true_iff}
 use mathlib.Core.Path.{◌≡◌, refl}
@@ -8,7 +9,7 @@ use native.Mathlib.Nat.{le_trans}
 use lib.Dec.{eqb, leb}
 use lib.ListN.{length}
 use borrow.Author.Tests.{eqb-true, leb-true}
-use Rattle.algebra.specs.Lists.{if◌then◌else◌, all, unique}
+use Rattle.algebra.specs.Lists.{all, unique}
 use Rattle.algebra.specs.Plans.{Env, Tables, Unary, Binary, Plan, leaf, one, two, nested, columns, eval}
 use Rattle.algebra.specs.Places.{size, flatten, subtrees}
 use Rattle.algebra.specs.Names.{introduced}

@@ -1,8 +1,8 @@
 -- Cells, comparisons and aggregates (docs/DEFINITION.md, "Cells", "Tests and comparisons" and "Aggregates"). Definitions only.
 -- A cell is held as its signed 64-bit code plus 2^63, so that the order of cells is the order of codes.
-use Rattle.std.specs.Prelude.{ℕ, ◌+◌, ◌*◌, ◌-◌, min, max, Bool, true, false, not, cond, ◌&&◌, ◌||◌, eqb, ltb, leb, length}
+use Rattle.std.specs.Prelude.{ℕ, ◌+◌, ◌*◌, ◌-◌, min, max, Bool, true, false, not, cond, ◌&&◌, ◌||◌, eqb, ltb, leb, length, if◌then◌else◌}
 use mathlib.Core.List.{List, [], ◌∷◌, foldr}
-use Rattle.algebra.specs.Lists.{if◌then◌else◌, filter, any, total}
+use Rattle.algebra.specs.Lists.{filter, any, total}
 
 pub data Comparison : Type 0 where
   eq ne lt le gt ge : Comparison

@@ -1,8 +1,8 @@
 -- The row bound, the need, and the refusals 8 to 14 of a plan as a tree. Definitions only.
 -- See docs/DEFINITION.md, "The kinds", "Columns and ids" and "Bound and need".
 -- The reading call meets 11 to 14 by `refusal`, and the unnestings ask the plan after them to pass by the same definition.
-use Rattle.std.specs.Prelude.{ℕ, ◌+◌, ◌*◌, min, max, Bool, true, false, not, ◌&&◌, List, [], ◌∷◌, ◌++◌, map, eqb, ltb, leb, length}
-use Rattle.algebra.specs.Lists.{if◌then◌else◌, every, all, total, member, unique, within}
+use Rattle.std.specs.Prelude.{ℕ, ◌+◌, ◌*◌, min, max, Bool, true, false, not, ◌&&◌, List, [], ◌∷◌, ◌++◌, map, eqb, ltb, leb, length, if◌then◌else◌}
+use Rattle.algebra.specs.Lists.{every, all, total, member, unique, within}
 use Rattle.algebra.specs.Cells.{Aggregate, count, over, in_range}
 use Rattle.algebra.specs.Plans.{Tables, Form, always, columns_of, number_of, Test, test, names, Leaf, unit, scan, Unary, select, project, distinct, group, sort, Binary, cross, semi, quant, fold, each, pair, Plan, leaf, one, two, nested, columns}
 use Rattle.algebra.specs.Places.{Operator, leaf_node, unary_node, binary_node, root, size, flatten, subtrees}

@@ -1,4 +1,5 @@
 -- What the converter keeps: the laws of specs/Laws.antt. Assumes nothing.
+use Rattle.std.specs.Prelude.{if◌then◌else◌}
 use Prim.Native.Nat.{ℕ, ◌≤◌}
 use native.Mathlib.Omega.{arith}
 use mathlib.Core.Path.{◌≡◌, refl, sym, ap, ap₂, ◌∙◌}
@@ -6,7 +7,7 @@ use mathlib.Core.Bool.{Bool, true, false, ◌||◌, and-eq-true_iff}
 use mathlib.Core.List.{List, [], ◌∷◌}
 use lib.ListN.{length}
 use lib.Dec.{eqb}
-use Rattle.algebra.specs.Lists.{if◌then◌else◌, all}
+use Rattle.algebra.specs.Lists.{all}
 use Rattle.algebra.specs.Cells.{blank, off_scale, within_reach}
 use Rattle.algebra.specs.Plans.{Tables, Plan, columns, eval_within}
 use Rattle.algebra.specs.Places.{size, flatten}

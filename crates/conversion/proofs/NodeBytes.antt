@@ -1,4 +1,5 @@
 -- A node's bytes in both versions: bytes 0 to 19 are the same, and the rest goes by its test. Assumes nothing.
+use Rattle.std.specs.Prelude.{if◌then◌else◌}
 use Prim.Native.Nat.{ℕ, zero, suc, ◌+◌, ◌-◌, ◌*◌, ◌≤◌, ◌<◌}
 use native.Mathlib.Omega.{arith}
 use native.Mathlib.Nat.{le_refl}
@@ -8,7 +9,7 @@ use mathlib.Core.List.{List, [], ◌∷◌, ◌++◌, map, append_assoc}
 use lib.Dec.{eqb}
 use lib.ListN.{length, take, drop, replicate, get_or, length-append, length-drop, length-take}
 use lib.Seq.{take_at, drop_at, drop-cons, drop-drop, get_or-drop, take-take, length-take-le}
-use Rattle.algebra.specs.Lists.{if◌then◌else◌, all, flat_map, upward}
+use Rattle.algebra.specs.Lists.{all, flat_map, upward}
 use Rattle.algebra.specs.Plans.{always, columns_of, number_of, Test, test, unit, scan, select, project, distinct, group, sort, cross, semi, quant, fold, each, pair}
 use Rattle.algebra.specs.Places.{Operator, leaf_node, unary_node, binary_node, size, flatten}
 use Rattle.algebra.proofs.Lists.{all_map}

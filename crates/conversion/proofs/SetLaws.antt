@@ -1,5 +1,6 @@
 -- What a set holds, whatever its version: its bytes in a version are read as a set that holds it, and a set that is read is the bytes of what
 -- it holds. So a set is converted by writing what it holds in the other version. Assumes nothing.
+use Rattle.std.specs.Prelude.{if◌then◌else◌}
 use Prim.Native.Nat.{ℕ, zero, suc, ◌+◌, ◌≤◌}
 use native.Mathlib.Omega.{arith}
 use native.Mathlib.Nat.{add-zero}
@@ -10,7 +11,7 @@ use lib.ListN.{length, drop, drop_of_length-le}
 use lib.Dec.{eqb}
 use lib.Seq.{drop-nil}
 use borrow.Author.Tests.{eqb-true}
-use Rattle.algebra.specs.Lists.{if◌then◌else◌, all, flat_map, upward}
+use Rattle.algebra.specs.Lists.{all, flat_map, upward}
 use Rattle.algebra.specs.Plans.{Tables}
 use Rattle.algebra.proofs.Lists.{all_map}
 use Rattle.reading.specs.TableSet.{columns_of, cell_bytes, cell_allowed, read_table, read_from, read_set_as, after_table, table_from, table_rows, amount_of, tables_as}

@@ -1,4 +1,5 @@
 -- The bytes of tables and sets in a version, and their sizes. Assumes nothing.
+use Rattle.std.specs.Prelude.{if◌then◌else◌}
 use Prim.Native.Nat.{ℕ, zero, suc, ◌+◌, ◌*◌, ◌%◌, ◌≤◌, ◌<◌}
 use native.Mathlib.Omega.{arith}
 use mathlib.Core.Path.{◌≡◌, refl, sym, ap, ap₂, ◌∙◌}
@@ -8,7 +9,7 @@ use lib.Dec.{eqb}
 use lib.ListN.{length, take, drop, length-append, length-drop}
 use lib.Seq.{length-take-le}
 use borrow.Author.Tests.{ne_eqb}
-use Rattle.algebra.specs.Lists.{if◌then◌else◌, all, flat_map, upward}
+use Rattle.algebra.specs.Lists.{all, flat_map, upward}
 use Rattle.algebra.specs.Cells.{blank, off_scale, within_reach}
 use Rattle.algebra.proofs.Lists.{all_map}
 use Rattle.reading.specs.Bytes.{all_below}

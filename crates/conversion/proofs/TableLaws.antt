@@ -1,5 +1,6 @@
 -- What a table holds, whatever its version: its bytes in a version are read as a table that holds it, and a table that is read is the bytes of
 -- what it holds. Assumes nothing.
+use Rattle.std.specs.Prelude.{if◌then◌else◌}
 use Prim.Native.Nat.{ℕ, zero, suc, ◌+◌, ◌*◌, ◌/◌, ◌≤◌, ◌<◌}
 use native.Mathlib.Omega.{arith}
 use native.Mathlib.Nat.{add-zero, mul-zero, mul-suc}
@@ -11,7 +12,7 @@ use lib.ListN.{length, get_or, take, drop, length-append, length-drop, length-ma
 use lib.Dec.{leb, ltb}
 use lib.Seq.{drop-cons, drop-drop, drop-nil, take_at, drop_at, get_or-drop, length-take-le}
 use borrow.Author.Tests.{lt-ltb, le-ltb, eq-eqb}
-use Rattle.algebra.specs.Lists.{if◌then◌else◌, all, flat_map, upward}
+use Rattle.algebra.specs.Lists.{all, flat_map, upward}
 use Rattle.algebra.specs.Cells.{blank}
 use Rattle.algebra.specs.Plans.{Row}
 use Rattle.algebra.proofs.Lists.{all_map}

@@ -1,6 +1,5 @@
 -- The answer of the converter's two calls (docs/DEFINITION.md, "The converter"). A set and a plan are lists of bytes. Definitions only.
-use Rattle.std.specs.Prelude.{ℕ, zero, suc, ◌&&◌, ◌||◌, ◌≡◌, List, ◌++◌, ltb, length, drop}
-use Rattle.algebra.specs.Lists.{if◌then◌else◌}
+use Rattle.std.specs.Prelude.{ℕ, zero, suc, ◌&&◌, ◌||◌, ◌≡◌, List, ◌++◌, ltb, length, drop, if◌then◌else◌}
 use Rattle.reading.specs.TableSet.{read_set_as, amount_of}
 use Rattle.reading.specs.Check.{or_next, input_refusal_as}
 use Rattle.reading.specs.declared.version.Version.{Version}

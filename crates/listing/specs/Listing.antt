@@ -1,6 +1,5 @@
 -- How the listing prints a cell (docs/DEFINITION.md, "The listing"). Definitions only.
-use Rattle.std.specs.Prelude.{suc, eqb, ℤ, pos, negsuc}
-use Rattle.algebra.specs.Lists.{if◌then◌else◌}
+use Rattle.std.specs.Prelude.{suc, eqb, ℤ, pos, negsuc, if◌then◌else◌}
 use Rattle.listing.specs.declared.cell.Shown.{Shown}
 use Rattle.listing.specs.declared.cell.Shown.TheVariants.{Blank, OffScale, BelowZero, Number}
 

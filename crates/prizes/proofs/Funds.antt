@@ -1,4 +1,5 @@
 -- What a purse and shares that are not refused 17 are. Assumes nothing.
+use Rattle.std.specs.Prelude.{if◌then◌else◌}
 use Prim.Native.Nat.{ℕ, suc, ◌≤◌}
 use native.Mathlib.Omega.{arith}
 use borrow.Author.Tests.{leb-true, eqb-true}
@@ -7,7 +8,7 @@ use mathlib.Core.Path.{◌≡◌, refl}
 use mathlib.Core.List.{List}
 use lib.Dec.{eqb, leb}
 use lib.ListN.{length}
-use Rattle.algebra.specs.Lists.{if◌then◌else◌, total}
+use Rattle.algebra.specs.Lists.{total}
 use Rattle.prizes.specs.Prize.{valid_fund, fund_number}
 
 -- a test that does not turn back holds

@@ -1,4 +1,5 @@
 -- Runs of equal scores: the first run and what is behind it, and what its rows are paid. Assumes nothing.
+use Rattle.std.specs.Prelude.{if◌then◌else◌}
 use Prim.Native.Nat.{ℕ, suc, ◌+◌, ◌-◌, ◌≤◌, ◌<◌}
 use native.Mathlib.Omega.{arith}
 use native.Mathlib.Numerals.{add-one}
@@ -9,7 +10,7 @@ use mathlib.Core.List.{List, [], ◌∷◌, ◌++◌}
 use lib.Dec.{eqb}
 use lib.ListN.{length, take, drop, get_or, drop_of_length-le}
 use lib.Seq.{length-take-le, drop-cons}
-use Rattle.algebra.specs.Lists.{if◌then◌else◌, all, total}
+use Rattle.algebra.specs.Lists.{all, total}
 use Rattle.algebra.specs.Cells.{is_number, one_blank, compares}
 use Rattle.prizes.specs.Payments.{tied, joined, runs, pool, split, pay_runs, payments}
 use Rattle.prizes.specs.Helpers.{tied_with, first_run}

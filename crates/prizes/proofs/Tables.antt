@@ -1,4 +1,5 @@
 -- The table of players and pence: one row more, and a run of rows written behind those that stand. Assumes nothing.
+use Rattle.std.specs.Prelude.{if◌then◌else◌}
 use Prim.Native.Nat.{ℕ, zero, suc, ◌+◌, ◌*◌, ◌-◌, ◌≤◌, ◌<◌}
 use native.Mathlib.Omega.{arith}
 use native.Mathlib.Nat.{add-mul, zero-mul}
@@ -10,7 +11,7 @@ use lib.IntN.{ℤ, pos}
 use lib.ListN.{length, take, drop, get_or, set, length-drop, take-append-drop}
 use lib.Seq.{take_all, drop-drop, drop-cons, paste, take-paste}
 use borrow.Rule.Slice.PartMut.{put_mid}
-use Rattle.algebra.specs.Lists.{if◌then◌else◌, all, total}
+use Rattle.algebra.specs.Lists.{all, total}
 use Rattle.algebra.specs.Cells.{is_number}
 use Rattle.reporting.specs.Rows.{chunk}
 use Rattle.reporting.specs.Report.{code_of}

@@ -1,6 +1,5 @@
 -- What the contracts of the prize call's own functions speak of. Definitions only.
-use Rattle.std.specs.Prelude.{ℕ, suc, ◌*◌, ◌≤◌, ◌≡◌, List, [], ◌∷◌, map, ℤ, length}
-use Rattle.algebra.specs.Lists.{if◌then◌else◌}
+use Rattle.std.specs.Prelude.{ℕ, suc, ◌*◌, ◌≤◌, ◌≡◌, List, [], ◌∷◌, map, ℤ, length, if◌then◌else◌}
 use Rattle.reporting.specs.Rows.{chunk}
 use Rattle.reporting.specs.Report.{count_after, output_after}
 use Rattle.prizes.specs.Payments.{tied, payments}

@@ -1,8 +1,8 @@
 -- The prize fund table: the places' pence, the pools and the club line (docs/DEFINITION.md, "The prize fund table"). Money is counted in
 -- pence, a share in hundredths of a per cent. Definitions only.
-use Rattle.std.specs.Prelude.{ℕ, zero, suc, ◌+◌, ◌*◌, ◌-◌, ◌/◌, ◌%◌, Bool, length, take, drop, replicate}
+use Rattle.std.specs.Prelude.{ℕ, zero, suc, ◌+◌, ◌*◌, ◌-◌, ◌/◌, ◌%◌, Bool, length, take, drop, replicate, if◌then◌else◌}
 use mathlib.Core.List.{List, [], ◌∷◌, ◌++◌, map, foldr}
-use Rattle.algebra.specs.Lists.{if◌then◌else◌, all, total}
+use Rattle.algebra.specs.Lists.{all, total}
 use Rattle.algebra.specs.Cells.{eq, is_number, compares}
 
 -- n pence more, one to each amount from the first on

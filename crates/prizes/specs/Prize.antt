@@ -1,7 +1,7 @@
 -- The answer of the prize call (docs/DEFINITION.md, "The prize fund table" and "The calls"). A set and a plan are lists of bytes.
 -- Definitions only.
-use Rattle.std.specs.Prelude.{ℕ, ◌*◌, Bool, ◌&&◌, ◌≡◌, List, [], ◌∷◌, map, eqb, ltb, leb, ℤ, pos, length, get_or}
-use Rattle.algebra.specs.Lists.{if◌then◌else◌, total}
+use Rattle.std.specs.Prelude.{ℕ, ◌*◌, Bool, ◌&&◌, ◌≡◌, List, [], ◌∷◌, map, eqb, ltb, leb, ℤ, pos, length, get_or, if◌then◌else◌}
+use Rattle.algebra.specs.Lists.{total}
 use Rattle.algebra.specs.Plans.{Row}
 use Rattle.reading.specs.Check.{or_next, input_refusal}
 use Rattle.reporting.specs.Report.{report_rows, row_count, column_count, code_of, rows_number, count_after, output_after, scratch_after}

@@ -1,4 +1,5 @@
 -- The whole check by its parts, and what acceptance gives. Assumes nothing.
+use Rattle.std.specs.Prelude.{if◌then◌else◌}
 use Prim.Native.Nat.{ℕ, zero, suc, ◌+◌, ◌*◌, ◌≤◌, ◌<◌}
 use mathlib.Core.Bool.{Bool, true, false, not, ◌&&◌, and-eq-true_iff}
 use mathlib.Core.Path.{◌≡◌, refl, ap, sym, ◌∙◌, subst}
@@ -8,7 +9,7 @@ use native.Mathlib.Nat.{mul-le-mul}
 use lib.Dec.{eqb, ltb, leb}
 use lib.ListN.{length, drop}
 use borrow.Author.Tests.{leb-true}
-use Rattle.algebra.specs.Lists.{if◌then◌else◌, all, total}
+use Rattle.algebra.specs.Lists.{all, total}
 use Rattle.algebra.specs.Plans.{Tables, Plan}
 use Rattle.algebra.specs.Places.{flatten, subtrees}
 use Rattle.algebra.specs.Names.{introduced}

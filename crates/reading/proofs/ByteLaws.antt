@@ -1,4 +1,5 @@
 -- Whatever a plan's bytes are, the ids that its nodes name are bytes; and so is what a tree names from outside itself. Assumes nothing.
+use Rattle.std.specs.Prelude.{if◌then◌else◌}
 use Prim.Native.Nat.{ℕ, zero, suc, ◌+◌, ◌*◌, ◌≤◌, ◌<◌}
 use native.Mathlib.Omega.{arith}
 use native.Mathlib.Decide.{dec_lt, dec_le}
@@ -9,7 +10,7 @@ use lib.Dec.{eqb, leb}
 use lib.ListN.{length, take, drop, length-take, get_or-eq_default}
 use lib.Seq.{get_or-take, get_or-drop}
 use borrow.Author.Tests.{lt-ltb}
-use Rattle.algebra.specs.Lists.{if◌then◌else◌, all, member, minus}
+use Rattle.algebra.specs.Lists.{all, member, minus}
 use Rattle.algebra.specs.Cells.{sum, least, greatest, count, over}
 use Rattle.algebra.specs.Plans.{Tables, form_names, columns, nested}
 use Rattle.algebra.specs.Places.{size}

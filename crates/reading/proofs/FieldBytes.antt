@@ -1,4 +1,5 @@
 -- A node's fields and their bytes, there and back: comparisons, marks, aggregates, tests and lists. Assumes nothing.
+use Rattle.std.specs.Prelude.{if◌then◌else◌}
 use Prim.Native.Nat.{ℕ, zero, suc, ◌+◌, ◌-◌, ◌*◌, ◌/◌, ◌%◌, ◌≤◌, ◌<◌}
 use native.Mathlib.Omega.{arith}
 use mathlib.Core.Path.{◌≡◌, refl, sym, ap, ap₂, ◌∙◌}
@@ -8,7 +9,7 @@ use lib.ListN.{length, take, drop, replicate, length-drop, length-replicate, tak
 use lib.Dec.{leb, ltb, eqb}
 use lib.Seq.{length-take-le, get_or-drop, drop_at}
 use borrow.Author.Tests.{leb-true, le-leb, ltb-true, lt-ltb, le-ltb, eqb-true}
-use Rattle.algebra.specs.Lists.{if◌then◌else◌, all}
+use Rattle.algebra.specs.Lists.{all}
 use Rattle.algebra.specs.Cells.{Comparison, eq, ne, lt, le, gt, ge, sum, least, greatest, Aggregate, count, over, within_reach, in_range}
 use Rattle.algebra.specs.Plans.{always, columns_of, number_of, Test, test}
 use Rattle.algebra.specs.Refusals.{byte, list_fields, test_fields, aggregate_fields}

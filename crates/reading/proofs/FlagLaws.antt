@@ -1,4 +1,5 @@
 -- Laws of flags and of the lists that they stand for: only the members count. Assumes nothing.
+use Rattle.std.specs.Prelude.{if◌then◌else◌}
 use Prim.Native.Nat.{ℕ, ◌+◌, ◌≤◌, ◌<◌, min}
 use native.Mathlib.Omega.{arith}
 use native.Mathlib.Decide.{ℕ_discrete, dec_le}
@@ -10,7 +11,7 @@ use lib.Dec.{eqb}
 use lib.ListN.{length, get_or, set, length-set, take, drop, replicate, get_or-replicate}
 use lib.Seq.{get_or-set_same, get_or-set_other, take-suc, take_all, drop-cons, drop-length, length-take-le, get_or-take}
 use borrow.Author.Tests.{eq-eqb, ne_eqb}
-use Rattle.algebra.specs.Lists.{if◌then◌else◌, member, minus, unique, within}
+use Rattle.algebra.specs.Lists.{member, minus, unique, within}
 use Rattle.algebra.specs.Refusals.{list_in_view}
 use Rattle.reading.specs.Flags.{Flags, Adds, Flagged, Sees, SeesOnce}
 

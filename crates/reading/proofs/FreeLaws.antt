@@ -1,4 +1,5 @@
 -- What a tree names from outside itself, node by node, and its flags. Assumes nothing.
+use Rattle.std.specs.Prelude.{if◌then◌else◌}
 use Prim.Native.Nat.{ℕ, zero, suc, ◌+◌, ◌≤◌, ◌<◌}
 use native.Mathlib.Omega.{arith}
 use native.Mathlib.Decide.{ℕ_discrete}
@@ -9,7 +10,7 @@ use lib.Dec.{eqb}
 use lib.ListN.{length, get_or, set, length-set, replicate, get_or-replicate, get_or-eq_default}
 use lib.Seq.{get_or-set_same, get_or-set_other}
 use borrow.Author.Tests.{eq-eqb, ne_eqb, ltb-true}
-use Rattle.algebra.specs.Lists.{if◌then◌else◌, all, member, minus, is_empty, upward}
+use Rattle.algebra.specs.Lists.{all, member, minus, is_empty, upward}
 use Rattle.algebra.specs.Plans.{Tables, names, Unary, select, project, distinct, group, sort, columns}
 use Rattle.algebra.specs.Names.{measured, unary_free, free}
 use Rattle.algebra.specs.Refusals.{byte}

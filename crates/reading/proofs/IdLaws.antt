@@ -1,4 +1,5 @@
 -- Laws of introduced ids and of their flags. Assumes nothing.
+use Rattle.std.specs.Prelude.{if◌then◌else◌}
 use Prim.Native.Nat.{ℕ, ◌+◌, ◌-◌, ◌≤◌, ◌<◌}
 use native.Mathlib.Omega.{arith}
 use native.Mathlib.Decide.{ℕ_discrete}
@@ -9,7 +10,7 @@ use lib.ListN.{length, get_or, set, length-set}
 use lib.Seq.{get_or-set_same, get_or-set_other}
 use lib.Dec.{eqb}
 use borrow.Author.Tests.{lt-ltb, le-ltb, eq-eqb, ne_eqb}
-use Rattle.algebra.specs.Lists.{if◌then◌else◌, all, member, unique, upward}
+use Rattle.algebra.specs.Lists.{all, member, unique, upward}
 use Rattle.algebra.specs.Plans.{Tables}
 use Rattle.algebra.specs.Refusals.{byte, once, found}
 use Rattle.algebra.proofs.Lists.{all_append, unique-left}

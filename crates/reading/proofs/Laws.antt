@@ -1,4 +1,5 @@
 -- Laws of the definitions of specs/, over plain lists and numbers, which the functions' proofs cite. Assumes nothing.
+use Rattle.std.specs.Prelude.{if◌then◌else◌}
 use Prim.Native.Nat.{ℕ, zero, suc, ◌+◌, ◌-◌, ◌/◌, ◌≤◌, ◌<◌}
 use native.Mathlib.Omega.{arith}
 use native.Mathlib.Nat.{le_refl}
@@ -11,7 +12,6 @@ use lib.ListN.{length, get_or, take, drop, length-drop, drop_of_length-le}
 use lib.Dec.{ltb, eqb}
 use lib.Seq.{take_all, drop-cons, drop-drop}
 use borrow.Author.Tests.{eqb-true, eq-eqb, ne_eqb}
-use Rattle.algebra.specs.Lists.{if◌then◌else◌}
 use Rattle.reading.specs.Bytes.{all_below}
 use borrow.Author.Tests.{lt-ltb, le-ltb, ltb-false, not-false}
 use Rattle.reading.specs.Bytes.{starts_with}

@@ -1,4 +1,5 @@
 -- Laws of the cells that nodes count, their bounds and columns known up to a cap. Assumes nothing.
+use Rattle.std.specs.Prelude.{if◌then◌else◌}
 use Prim.Native.Nat.{ℕ, ◌+◌, ◌*◌, ◌≤◌, ◌<◌, min}
 use mathlib.Core.Bool.{Bool, true, false, and-eq-true_iff}
 use mathlib.Core.Path.{◌≡◌, refl, ap₂, sym, ◌∙◌}
@@ -8,7 +9,7 @@ use native.Mathlib.Nat.{mul-le-mul}
 use lib.Dec.{ltb}
 use lib.ListN.{length}
 use borrow.Author.Tests.{le-ltb}
-use Rattle.algebra.specs.Lists.{if◌then◌else◌, all, total}
+use Rattle.algebra.specs.Lists.{all, total}
 use Rattle.algebra.specs.Plans.{Tables, Plan, columns}
 use Rattle.algebra.specs.Places.{root, subtrees}
 use Rattle.algebra.specs.Refusals.{bound, width, has_region, counted_rows, share, part, narrow, low}

@@ -1,5 +1,6 @@
 -- A plan that is read and whole is the encoding of its tree, byte for byte; and the encoding of a tree is read, whole, and that tree's.
 -- Assumes nothing.
+use Rattle.std.specs.Prelude.{if◌then◌else◌}
 use Prim.Native.Nat.{ℕ, zero, suc, ◌+◌, ◌*◌, ◌≤◌, ◌<◌}
 use native.Mathlib.Omega.{arith}
 use native.Mathlib.Nat.{mul-zero, mul-suc}
@@ -11,7 +12,7 @@ use lib.ListN.{length, take, drop, length-take, length-drop, length-append, drop
 use lib.Dec.{leb, ltb, eqb}
 use lib.Seq.{take_at, drop_at, drop-cons, drop-drop, get_or-take, get_or-drop, length-take-le}
 use borrow.Author.Tests.{ltb-true, lt-ltb, leb-true, le-leb, le-ltb, eqb-true, eq-eqb, not-false}
-use Rattle.algebra.specs.Lists.{if◌then◌else◌, all, flat_map, upward}
+use Rattle.algebra.specs.Lists.{all, flat_map, upward}
 use Rattle.algebra.specs.Plans.{Plan}
 use Rattle.algebra.specs.Places.{Operator, size, flatten}
 use Rattle.algebra.specs.Refusals.{byte, fields, refusal, passes}

@@ -1,4 +1,5 @@
 -- The two versions: a word and its code, there and back; the version that a header's mark says; sizes. Assumes nothing.
+use Rattle.std.specs.Prelude.{if◌then◌else◌}
 use Prim.Native.Nat.{ℕ, suc, ◌+◌, ◌-◌, ◌*◌, ◌/◌, ◌%◌, ◌^◌, ◌≤◌, ◌<◌}
 use native.Mathlib.Omega.{arith}
 use native.Mathlib.Decide.{ℕ_discrete}
@@ -9,7 +10,6 @@ use mathlib.Core.List.{List, [], ◌∷◌, ◌++◌}
 use lib.ListN.{length, drop}
 use lib.Dec.{eqb, leb}
 use borrow.Author.Tests.{leb-true, le-leb, eqb-true, eq-eqb, ne_eqb}
-use Rattle.algebra.specs.Lists.{if◌then◌else◌}
 use Rattle.algebra.specs.Cells.{blank, off_scale, origin, reach, within_reach, in_range}
 use Rattle.reading.specs.Bytes.{byte_at, u16_at, starts_with}
 use Rattle.reading.specs.Versions.{version_number, version_of, cell_size, node_size, test_size, reach_of, word_of, unsigned_code}

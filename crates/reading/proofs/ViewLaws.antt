@@ -1,4 +1,5 @@
 -- A node's columns and names, part by part, and what they say of the tree at a place. Assumes nothing.
+use Rattle.std.specs.Prelude.{if◌then◌else◌}
 use Prim.Native.Nat.{ℕ, zero, suc, ◌+◌, ◌*◌, ◌≤◌, ◌<◌}
 use native.Mathlib.Omega.{arith}
 use mathlib.Core.Path.{◌≡◌, refl, sym, ap, ◌∙◌}
@@ -7,7 +8,7 @@ use mathlib.Core.List.{List, [], ◌∷◌, ◌++◌, append-nil}
 use lib.Dec.{eqb}
 use lib.ListN.{get_or-eq_default}
 use borrow.Author.Tests.{ne_eqb}
-use Rattle.algebra.specs.Lists.{if◌then◌else◌, member, within}
+use Rattle.algebra.specs.Lists.{member, within}
 use Rattle.algebra.specs.Cells.{sum, least, greatest, over}
 use Rattle.algebra.specs.Plans.{Tables, Plan, leaf, one, two, nested, columns, form_names}
 use Rattle.algebra.specs.Places.{Operator}

@@ -1,7 +1,6 @@
 -- The whole of reading: what a set and a plan are turned back for, and what they give where they are not (docs/DEFINITION.md, "Refusals"
 -- and "The calls"). Definitions only.
-use Rattle.std.specs.Prelude.{ℕ, zero, suc, List}
-use Rattle.algebra.specs.Lists.{if◌then◌else◌}
+use Rattle.std.specs.Prelude.{ℕ, zero, suc, List, if◌then◌else◌}
 use Rattle.algebra.specs.Plans.{Tables}
 use Rattle.algebra.specs.Refusals.{refusal, need}
 use Rattle.reading.specs.TableSet.{read_set_as, amount_of, known_tables, tables_as}

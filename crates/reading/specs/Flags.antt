@@ -1,6 +1,6 @@
 -- What 256 flags say of a list of ids. The contracts of helpers speak of them; no answer of a call does.
-use Rattle.std.specs.Prelude.{ℕ, ◌<◌, Bool, true, ◌≡◌, List, ◌++◌, length, get_or}
-use Rattle.algebra.specs.Lists.{if◌then◌else◌, member, within}
+use Rattle.std.specs.Prelude.{ℕ, ◌<◌, Bool, true, ◌≡◌, List, ◌++◌, length, get_or, if◌then◌else◌}
+use Rattle.algebra.specs.Lists.{member, within}
 use Rattle.algebra.specs.Refusals.{once, list_in_view}
 use Rattle.reading.specs.declared.flags.Marked.{Marked}
 

@@ -1,7 +1,7 @@
 -- The columns that a node names from outside its tree, part by part. The contracts of helpers speak of these; what a tree names from outside
 -- itself is the algebra's `free`. Definitions only.
-use Rattle.std.specs.Prelude.{ℕ, zero, suc, ◌<◌, Bool, true, not, ◌≡◌, List, [], ◌∷◌, ◌++◌, eqb, length, get_or}
-use Rattle.algebra.specs.Lists.{if◌then◌else◌, all, member, minus}
+use Rattle.std.specs.Prelude.{ℕ, zero, suc, ◌<◌, Bool, true, not, ◌≡◌, List, [], ◌∷◌, ◌++◌, eqb, length, get_or, if◌then◌else◌}
+use Rattle.algebra.specs.Lists.{all, member, minus}
 use Rattle.algebra.specs.Plans.{names, form_names, Unary, select, project, distinct, group, sort}
 use Rattle.algebra.specs.Places.{Operator, leaf_node, unary_node, binary_node}
 use Rattle.algebra.specs.Names.{measured, binary_names, inner_free}

@@ -1,6 +1,6 @@
 -- What one node does, apart from its children's trees. The contracts of helpers speak of these; the definitions of whole plans are the algebra's.
-use Rattle.std.specs.Prelude.{ℕ, zero, suc, ◌+◌, ◌*◌, min, Bool, true, false, ◌≡◌, List, [], ◌∷◌, ◌++◌, map, length, eqb}
-use Rattle.algebra.specs.Lists.{if◌then◌else◌, flat_map, total, upward}
+use Rattle.std.specs.Prelude.{ℕ, zero, suc, ◌+◌, ◌*◌, min, Bool, true, false, ◌≡◌, List, [], ◌∷◌, ◌++◌, map, length, eqb, if◌then◌else◌}
+use Rattle.algebra.specs.Lists.{flat_map, total, upward}
 use Rattle.algebra.specs.Plans.{Tables, Unary, select, project, distinct, group, sort, form_names, Binary, cross, semi, quant, fold, each, pair, Plan, leaf, one, two, leaf_columns, unary_columns, binary_columns, columns, nested}
 use Rattle.algebra.specs.Places.{Operator, leaf_node, unary_node, binary_node, root, subtrees}
 use Rattle.algebra.specs.Names.{measured, unary_new, binary_new}

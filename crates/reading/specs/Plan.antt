@@ -1,8 +1,7 @@
 -- The plan's bytes, and the refusals 6 to 9 (docs/DEFINITION.md, "The plan's bytes").
 -- A plan is a list of bytes: 6 bytes of header, which says its version, then 24 or 32 bytes for each node. A plan is read as one of the two
 -- versions, v. Definitions only.
-use Rattle.std.specs.Prelude.{ℕ, ◌+◌, ◌*◌, Bool, ◌&&◌, ◌||◌, not, List, [], ◌∷◌, length, take, drop, leb, ltb, eqb}
-use Rattle.algebra.specs.Lists.{if◌then◌else◌}
+use Rattle.std.specs.Prelude.{ℕ, ◌+◌, ◌*◌, Bool, ◌&&◌, ◌||◌, not, List, [], ◌∷◌, length, take, drop, leb, ltb, eqb, if◌then◌else◌}
 use Rattle.algebra.specs.Cells.{within_reach}
 use Rattle.reading.specs.Bytes.{byte_at, u16_at, unsigned_at, starts_with, all_below}
 use Rattle.reading.specs.Versions.{version_number, version_of, cell_size, node_size, test_size, reach_of, word_of}

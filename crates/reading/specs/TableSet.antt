@@ -1,8 +1,8 @@
 -- The set of tables, and the refusals 1 to 5 (docs/DEFINITION.md, "Cells" and "The set of tables").
 -- A set is a list of bytes: 0 to 8 tables, one after another. A table is looked at as the bytes from its first one on, and its header says its
 -- version. A set is read as one of the two versions, v: all its tables have it. Definitions only.
-use Rattle.std.specs.Prelude.{ℕ, zero, suc, ◌+◌, ◌*◌, ◌/◌, Bool, ◌&&◌, ◌||◌, not, List, [], ◌∷◌, map, length, take, drop, leb, ltb, eqb}
-use Rattle.algebra.specs.Lists.{if◌then◌else◌, upward}
+use Rattle.std.specs.Prelude.{ℕ, zero, suc, ◌+◌, ◌*◌, ◌/◌, Bool, ◌&&◌, ◌||◌, not, List, [], ◌∷◌, map, length, take, drop, leb, ltb, eqb, if◌then◌else◌}
+use Rattle.algebra.specs.Lists.{upward}
 use Rattle.algebra.specs.Cells.{blank, off_scale, within_reach}
 use Rattle.algebra.specs.Plans.{Row, Tables}
 use Rattle.reading.specs.Bytes.{byte_at, u16_at, unsigned_at, starts_with, all_below}

@@ -1,6 +1,5 @@
 -- The tree of a plan's nodes, and refusal 10 (docs/DEFINITION.md, "The plan's bytes" and "The tree"). Definitions only.
-use Rattle.std.specs.Prelude.{ℕ, zero, suc, ◌+◌, Bool, true, false, List, ltb, eqb, take}
-use Rattle.algebra.specs.Lists.{if◌then◌else◌}
+use Rattle.std.specs.Prelude.{ℕ, zero, suc, ◌+◌, Bool, true, false, List, ltb, eqb, take, if◌then◌else◌}
 use Rattle.algebra.specs.Cells.{Comparison, eq, ne, lt, le, gt, ge, sum, least, greatest, Aggregate, count, over}
 use Rattle.algebra.specs.Plans.{Form, always, columns_of, number_of, test, Test as MarkedTest, unit, scan, select, project, distinct, group, sort, Binary, cross, semi, quant, fold, each, pair, Plan, leaf, one, two}
 use Rattle.algebra.specs.Places.{Operator, leaf_node, unary_node, binary_node, size}

@@ -1,7 +1,6 @@
 -- The two versions of a set's tables and of a plan: what differs between them (docs/DEFINITION.md, "Cells", "The set of tables" and "The
 -- plan's bytes"). Everything else that is read is the same in both. Definitions only.
-use Rattle.std.specs.Prelude.{ℕ, ◌+◌, ◌-◌, ◌%◌, ◌^◌, eqb}
-use Rattle.algebra.specs.Lists.{if◌then◌else◌}
+use Rattle.std.specs.Prelude.{ℕ, ◌+◌, ◌-◌, ◌%◌, ◌^◌, eqb, if◌then◌else◌}
 use Rattle.algebra.specs.Cells.{blank, off_scale, origin, reach}
 use Rattle.reading.specs.declared.version.Version.{Version}
 use Rattle.reading.specs.declared.version.Version.TheVariants.{First, Second}

@@ -1,11 +1,12 @@
 -- What a node tests and measures, by its kind. Assumes nothing.
+use Rattle.std.specs.Prelude.{if◌then◌else◌}
 use Prim.Native.Nat.{ℕ}
 use mathlib.Core.Path.{◌≡◌, refl, ap, ◌∙◌}
 use mathlib.Core.Bool.{Bool, true, false, not, cond, ◌&&◌, ◌||◌, beq}
 use native.Mathlib.Omega.{arith}
 use lib.Dec.{eqb}
 use borrow.Author.Tests.{ne_eqb, lt-ltb, le-ltb}
-use Rattle.algebra.specs.Lists.{flip, if◌then◌else◌}
+use Rattle.algebra.specs.Lists.{flip}
 use Rattle.algebra.specs.Cells.{Aggregate, count, over, Summary, sum, least, greatest}
 use Rattle.algebra.specs.Plans.{Env, holds}
 use Rattle.algebra.specs.Places.{Operator}

@@ -1,4 +1,5 @@
 -- Columns that were found say of the cells what the node says of the environment. Assumes nothing.
+use Rattle.std.specs.Prelude.{if◌then◌else◌}
 use mathlib.Core.Path.{◌≡◌, refl, sym, ap, ◌∙◌, subst}
 use mathlib.Core.Bool.{Bool, true, false, not, ◌&&◌, ◌||◌, false≢true, and-eq-true_iff}
 use mathlib.Core.List.{List, map}
@@ -8,7 +9,7 @@ use lib.Dec.{eqb}
 use lib.ListN.{length, take, get_or}
 use lib.Seq.{get_or-take}
 use borrow.Author.Tests.{eqb-true, eqb-false, eq-eqb, ne_eqb, lt-ltb, le-ltb}
-use Rattle.algebra.specs.Lists.{flip, filter, member, if◌then◌else◌}
+use Rattle.algebra.specs.Lists.{flip, filter, member}
 use Rattle.algebra.specs.Cells.{Aggregate, is_number, one_blank, eq, compares, aggregate, aggregate_within}
 use Rattle.algebra.specs.Plans.{Row, Env, bind, measure, test, truth, holds, gather_within}
 use Rattle.algebra.proofs.Cells.{eqb-sym}

@@ -1,7 +1,7 @@
 -- The report, and the answer of the reporting call (docs/DEFINITION.md, "Rows" and "The calls"). A set and a plan are lists of bytes.
 -- Definitions only.
-use Rattle.std.specs.Prelude.{ℕ, zero, suc, ◌*◌, ◌-◌, ◌≡◌, List, ◌++◌, map, ltb, ℤ, pos, ◌-ℤ◌, length, drop, replicate}
-use Rattle.algebra.specs.Lists.{if◌then◌else◌, flat_map}
+use Rattle.std.specs.Prelude.{ℕ, zero, suc, ◌*◌, ◌-◌, ◌≡◌, List, ◌++◌, map, ltb, ℤ, pos, ◌-ℤ◌, length, drop, replicate, if◌then◌else◌}
+use Rattle.algebra.specs.Lists.{flat_map}
 use Rattle.algebra.specs.Plans.{Row, Plan, columns, eval}
 use Rattle.algebra.specs.Refusals.{need}
 use Rattle.algebra.specs.Rules.{outside}

@@ -1,5 +1,6 @@
 -- What is claimed of lists of steps made elsewhere: they are accepted exactly where they are right, our own are, and what is accepted gives the
 -- same report. Assumes nothing.
+use Rattle.std.specs.Prelude.{if◌then◌else◌}
 use Prim.Native.Nat.{ℕ, suc, ◌*◌, ◌%◌, ◌≤◌}
 use mathlib.Core.Bool.{Bool, true, false, true≢false, and-eq-true_iff}
 use mathlib.Core.Path.{◌≡◌, refl, sym, ap, ◌∙◌, subst}
@@ -10,7 +11,7 @@ use lib.Dec.{ltb}
 use lib.ListN.{length, take}
 use lib.Seq.{take_at}
 use borrow.Author.Tests.{ltb-false, le-ltb, le-leb, eqb-true, eq-eqb}
-use Rattle.algebra.specs.Lists.{if◌then◌else◌, all}
+use Rattle.algebra.specs.Lists.{all}
 use Rattle.algebra.specs.Plans.{Tables, Plan}
 use Rattle.algebra.specs.Steps.{Step, attempt, after, fitted}
 use Rattle.algebra.specs.Demand3.{Still}

@@ -1,4 +1,5 @@
 -- What the fields of an accepted plan's nodes keep to, so that nodes made of them can be written. Assumes nothing.
+use Rattle.std.specs.Prelude.{if◌then◌else◌}
 use Prim.Native.Nat.{ℕ, zero, suc, ◌+◌, ◌*◌, ◌≤◌, ◌<◌}
 use native.Mathlib.Omega.{arith}
 use mathlib.Core.Path.{◌≡◌, refl, sym, ap, subst, ◌∙◌}
@@ -9,7 +10,6 @@ use lib.Dec.{eqb, leb, ltb}
 use lib.ListN.{length, take, drop, get_or-eq_default}
 use lib.Seq.{get_or-drop}
 use borrow.Author.Tests.{le-leb, leb-true, ltb-true}
-use Rattle.algebra.specs.Lists.{if◌then◌else◌}
 use Rattle.algebra.specs.Cells.{in_range}
 use Rattle.reading.specs.Bytes.{byte_at}
 use Rattle.reading.specs.Plan.{kind_table, kind_entry, test_limits, test_row, limited, count_allowed, list_allowed, test_number, test_allowed, fields_allowed, node_part, test_of, node_of, node_at, nodes_of, nodes_allowed}

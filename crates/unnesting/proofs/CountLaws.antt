@@ -1,4 +1,5 @@
 -- U3, U4 and U6 at a place, so far as the plan alone decides: one law for each way out of their functions. Assumes nothing.
+use Rattle.std.specs.Prelude.{if◌then◌else◌}
 use Prim.Native.Nat.{ℕ, zero, suc, ◌+◌, ◌*◌, ◌≤◌, ◌<◌}
 use mathlib.Core.Bool.{Bool, true, false, cond, ◌&&◌, false≢true}
 use mathlib.Core.Path.{◌≡◌, refl, sym, ap, ap₂, ◌∙◌, subst}
@@ -10,7 +11,7 @@ use native.Mathlib.Decide.{ℕ_discrete}
 use lib.Dec.{eqb, leb}
 use lib.ListN.{length, take, get_or}
 use borrow.Author.Tests.{ne_eqb}
-use Rattle.algebra.specs.Lists.{if◌then◌else◌, every, flat_map}
+use Rattle.algebra.specs.Lists.{every, flat_map}
 use Rattle.algebra.specs.Cells.{Comparison, eq, gt, Aggregate, count, origin}
 use Rattle.algebra.specs.Plans.{Tables, test, Test as MarkedTest, plain, is_plain, number_of, Unary, select, project, distinct, group, sort, Binary, semi, pair, Plan, leaf, one, two}
 use Rattle.algebra.specs.Places.{Operator, leaf_node, unary_node, binary_node, root, size, flatten}

@@ -1,5 +1,6 @@
 -- U1, U2 and U5 at a place: how a Select, which may stand under a Project, links its child with another tree, and what the rules make of it.
 -- Assumes nothing.
+use Rattle.std.specs.Prelude.{if◌then◌else◌}
 use Prim.Native.Nat.{ℕ, zero, suc, ◌+◌, ◌-◌, ◌≤◌, ◌<◌}
 use native.Mathlib.Omega.{arith}
 use native.Mathlib.Decide.{ℕ_discrete}
@@ -10,7 +11,7 @@ use mathlib.Core.Logic.{inl}
 use mathlib.Core.Option.{Option, none, some}
 use lib.Dec.{eqb, leb}
 use borrow.Author.Tests.{ne_eqb}
-use Rattle.algebra.specs.Lists.{if◌then◌else◌, flip, member}
+use Rattle.algebra.specs.Lists.{flip, member}
 use Rattle.algebra.specs.Cells.{ne, lt, le, gt, ge, turn}
 use Rattle.algebra.specs.Plans.{Tables, columns_of, test, turned, Unary, select, project, distinct, group, sort, Binary, quant, fold, semi, pair, Plan, one, two, columns}
 use Rattle.algebra.specs.Places.{unary_node, binary_node, size, flatten}

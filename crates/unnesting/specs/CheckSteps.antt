@@ -1,7 +1,7 @@
 -- The answer of the call that checks a list of steps made elsewhere (docs/DEFINITION.md, "Steps made elsewhere" and "The calls"). A set, a
 -- plan, a list of steps, and the plan that the list is said to leave, theirs, are lists of bytes. Definitions only.
-use Rattle.std.specs.Prelude.{ℕ, ◌/◌, ◌%◌, Bool, ◌&&◌, ◌≡◌, List, [], ◌∷◌, eqb, ltb, leb, length}
-use Rattle.algebra.specs.Lists.{if◌then◌else◌, all, same}
+use Rattle.std.specs.Prelude.{ℕ, ◌/◌, ◌%◌, Bool, ◌&&◌, ◌≡◌, List, [], ◌∷◌, eqb, ltb, leb, length, if◌then◌else◌}
+use Rattle.algebra.specs.Lists.{all, same}
 use Rattle.algebra.specs.Plans.{Tables, Plan}
 use Rattle.algebra.specs.Steps.{Step, follow, fitted, tried}
 use Rattle.reading.specs.TableSet.{tables_of}

@@ -1,7 +1,6 @@
 -- What U3, U4 and U6 ask of a node's children, and the change that U3 and U4 bring. The contracts of helpers speak of these; the rules are the
 -- algebra's `u3` and `u6`. Definitions only.
-use Rattle.std.specs.Prelude.{ℕ, ◌+◌, Bool, false, ◌&&◌, eqb}
-use Rattle.algebra.specs.Lists.{if◌then◌else◌}
+use Rattle.std.specs.Prelude.{ℕ, ◌+◌, Bool, false, ◌&&◌, eqb, if◌then◌else◌}
 use Rattle.algebra.specs.Cells.{origin}
 use Rattle.algebra.specs.Plans.{Tables, Plan}
 use Rattle.algebra.specs.Names.{closed}

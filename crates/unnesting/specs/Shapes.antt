@@ -1,8 +1,8 @@
 -- What a rule makes of a node's tree, told apart into what the plan alone decides and what rows decide, and the bytes of the plan after it. The
 -- contracts of helpers speak of these; the rules are the algebra's `unnest`. Definitions only.
-use Rattle.std.specs.Prelude.{ℕ, ◌+◌, ◌*◌, ◌-◌, ◌≤◌, ◌<◌, Bool, true, false, not, cond, ◌≡◌, List, [], ◌++◌, eqb, take, drop}
+use Rattle.std.specs.Prelude.{ℕ, ◌+◌, ◌*◌, ◌-◌, ◌≤◌, ◌<◌, Bool, true, false, not, cond, ◌≡◌, List, [], ◌++◌, eqb, take, drop, if◌then◌else◌}
 use Rattle.std.proofs.Math.Option.{Option, none, some}
-use Rattle.algebra.specs.Lists.{if◌then◌else◌, is_empty, flat_map}
+use Rattle.algebra.specs.Lists.{is_empty, flat_map}
 use Rattle.algebra.specs.Plans.{Tables, is_plain, cross, semi, quant, fold, each, pair, Plan, leaf, one, two, eval}
 use Rattle.algebra.specs.Places.{Operator, leaf_node, unary_node, binary_node, size, flatten}
 use Rattle.algebra.specs.Names.{closed}

@@ -1,8 +1,8 @@
 -- The answer of the unnesting call (docs/DEFINITION.md, "Steps" and "The calls"). A set and a plan are lists of bytes.
 -- Definitions only.
-use Rattle.std.specs.Prelude.{ℕ, zero, suc, max, ◌||◌, ◌≡◌, ltb, length, drop}
+use Rattle.std.specs.Prelude.{ℕ, zero, suc, max, ◌||◌, ◌≡◌, ltb, length, drop, if◌then◌else◌}
 use mathlib.Core.List.{List, [], ◌∷◌, ◌++◌, map, foldr}
-use Rattle.algebra.specs.Lists.{if◌then◌else◌, flat_map}
+use Rattle.algebra.specs.Lists.{flat_map}
 use Rattle.algebra.specs.Plans.{Tables, Plan}
 use Rattle.algebra.specs.Refusals.{need}
 use Rattle.algebra.specs.Steps.{weight, Step, or_else, attempt, after, run}

@@ -1,7 +1,6 @@
 // U3, U4 and U6 so far as the plan alone decides: Semi, Anti and Pair that count or gather by the key of their first child.
-ghost use Rattle.std.specs.Prelude.{◌≡◌, true, false, ◌<◌, ◌≤◌, eqb};
+ghost use Rattle.std.specs.Prelude.{◌≡◌, true, false, ◌<◌, ◌≤◌, eqb, if◌then◌else◌};
 ghost use Rattle.std.proofs.Math.Option.{some};
-ghost use Rattle.algebra.specs.Lists.{if◌then◌else◌};
 ghost use Rattle.algebra.specs.Cells.{origin};
 ghost use Rattle.algebra.specs.Plans.{is_plain};
 ghost use Rattle.algebra.specs.Rules.{fresh, only_of};

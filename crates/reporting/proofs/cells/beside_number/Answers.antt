@@ -1,3 +1,4 @@
+use Rattle.std.specs.Prelude.{if◌then◌else◌}
 use Prim.Native.Nat.{ℕ}
 use mathlib.Core.Bool.{Bool, true, false}
 use mathlib.Core.Path.{◌≡◌, refl}
@@ -5,7 +6,6 @@ use lib.Dec.{eqb}
 use borrow.Author.Tests.{eqb-true, ne_eqb}
 use Rattle.algebra.specs.Cells.{lt, le, gt, ge, is_unequal}
 use Rattle.reading.specs.Tree.{comparison_of}
-use Rattle.algebra.specs.Lists.{if◌then◌else◌}
 use Rattle.reporting.proofs.cells.beside_number.Goals as goal
 
 none-unequal : (p q r : Bool) → false ≡ is_unequal (if p then lt else if q then le else if r then gt else ge)

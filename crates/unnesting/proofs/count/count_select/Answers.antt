@@ -1,3 +1,4 @@
+use Rattle.std.specs.Prelude.{if◌then◌else◌}
 use lib.Dec.{eqb}
 use mathlib.Core.Path.{◌≡◌, ap, ◌∙◌}
 use mathlib.Core.Bool.{true, false}
@@ -6,7 +7,6 @@ use borrow.Author.Tests.{eq-eqb, ne_eqb}
 use Rattle.algebra.specs.Cells.{origin}
 use Rattle.reading.specs.declared.plan.Test.TheVariants.{Number}
 use Rattle.unnesting.specs.Images.{plain_node}
-use Rattle.algebra.specs.Lists.{if◌then◌else◌}
 use Rattle.unnesting.proofs.count.count_select.Goals as goal
 use Rattle.unnesting.proofs.count.count_select.Goals.{Joined-kind-eq7, then-kind-eq7, else-kind-eq7}
 

@@ -21,5 +21,8 @@ pub returns : goal.returns
 returns c =
     let p = passed (goal.at.returns c).Start in
     let l = c.link_of.ensures in
-    let n = c.node_at-node.ensures in record { result_value = l.links.decides _ _ (adds-first c.add_columns-first.ensures) (adds-first c.add_columns-second.ensures)
-          ∙ link-select _ _ _ _ c.requires.f_bound _ n p.whole c.if-kind-ne2.false; result_value_2 = l.result_value (rw n (allowed_node _ p.known _ c.requires.f_bound).tested) }
+    let n = c.node_at-node.ensures in record {
+      result_value = l.links.decides _ _ (adds-first c.add_columns-first.ensures) (adds-first c.add_columns-second.ensures)
+          ∙ link-select _ _ _ _ c.requires.f_bound _ n p.whole c.if-kind-ne2.false;
+      result_value_2 = l.result_value (rw n (allowed_node _ p.known _ c.requires.f_bound).tested);
+    }
