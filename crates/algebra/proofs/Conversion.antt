@@ -1,17 +1,17 @@
 -- Where no sum leaves the smaller of two ranges, a plan gives the same rows in both. Assumes nothing.
-use Prim.Native.Nat.{ℕ, ◌+◌, ◌*◌, ◌-◌, ◌≤◌}
-use mathlib.Core.Path.{◌≡◌, refl, sym, ap, ap₂, ◌∙◌}
-use mathlib.Core.Bool.{Bool, true, false, not, cond, ◌&&◌, ◌||◌, false≢true, and-eq-true_iff}
+use Prim.Native.Nat.{ℕ, ◌+◌, ◌*◌, ◌≤◌}
+use mathlib.Core.Path.{◌≡◌, refl, ap, ap₂, ◌∙◌}
+use mathlib.Core.Bool.{Bool, true, false, not, cond, ◌&&◌, ◌||◌, and-eq-true_iff}
 use mathlib.Core.List.{List, [], ◌∷◌, ◌++◌, map}
 use native.Mathlib.Omega.{arith}
 use lib.Dec.{eqb, leb}
 use lib.ListN.{length}
 use borrow.Author.Tests.{leb-true, le-leb}
 use Rattle.algebra.specs.Lists.{filter, any, all, flat_map, total, firsts}
-use Rattle.algebra.specs.Cells.{Summary, sum, least, greatest, Aggregate, count, over, blank, off_scale, origin, is_blank, needs_all, sum_within, summary_within, aggregate_within}
+use Rattle.algebra.specs.Cells.{sum, least, greatest, Aggregate, count, over, blank, off_scale, origin, is_blank, sum_within, summary_within, aggregate_within}
 use Rattle.algebra.specs.Plans.{Row, Env, Tables, Unary, select, project, distinct, group, sort, Binary, cross, semi, quant, fold, each, pair, Plan, leaf, one, two, nested, columns, holds, bind, measure, matched, cut, around, gather_within, emit_within, act_within, joined_within, eval_within}
 use Rattle.algebra.proofs.Aggregates.{filter-all}
-use Rattle.algebra.specs.Conversion.{sum_in_range, summary_stays, aggregate_stays, gather_stays, emit_stays, act_stays, sums_stay}
+use Rattle.algebra.specs.Conversion.{sum_in_range, aggregate_stays, gather_stays, emit_stays, act_stays, sums_stay}
 
 -- what all elements give
 module _ {A B : Type 0} (p : A → Bool) (f g : A → List B) (same : (x : A) → p x ≡ true → f x ≡ g x) where

@@ -1,6 +1,6 @@
 -- A stay note's two sequences have a first difference, and the length of their common beginning is its position. Assumes nothing.
 use Prim.Native.Nat.{ℕ, zero, suc, ◌≤◌, ◌<◌}
-use mathlib.Core.Bool.{Bool, true, false, cond, ◌&&◌, true≢false}
+use mathlib.Core.Bool.{Bool, true, false, cond, true≢false}
 use mathlib.Core.Path.{◌≡◌, refl, sym, ap, ◌∙◌, subst}
 use mathlib.Core.Logic.{◌⊎◌, inl, inr}
 use mathlib.Core.List.{List, [], ◌∷◌}
@@ -8,7 +8,7 @@ use mathlib.Core.Option.{Option, none, some, some-ne-none, none-ne-some, some-in
 use native.Mathlib.Omega.{arith}
 use lib.ListN.{length, get_elem?}
 use borrow.Author.Tests.{not-true}
-use Rattle.algebra.specs.Lists.{every, same, same_rows, common_beginning}
+use Rattle.algebra.specs.Lists.{every, same, same_rows}
 use Rattle.algebra.specs.Plans.{Row, Tables, is_plain, distinct, cross, semi, quant, fold, each, pair, Plan, leaf, one, two, eval}
 use Rattle.algebra.specs.Places.{modify, look}
 use Rattle.algebra.specs.Refusals.{passes}

@@ -5,13 +5,13 @@ use native.Mathlib.Omega.{arith}
 use native.Mathlib.Nat.{le_refl}
 use mathlib.Core.Path.{◌≡◌, refl, sym, ap, ap₂, ◌∙◌}
 use mathlib.Core.Bool.{Bool, true, false, ◌&&◌}
-use mathlib.Core.List.{List, [], ◌∷◌, ◌++◌, map, append_assoc}
+use mathlib.Core.List.{List, [], ◌∷◌, ◌++◌, append_assoc}
 use lib.Dec.{eqb}
-use lib.ListN.{length, take, drop, replicate, get_or, length-append, length-drop, length-take}
+use lib.ListN.{length, take, drop, replicate, get_or, length-append, length-drop}
 use lib.Seq.{take_at, drop_at, drop-cons, drop-drop, get_or-drop, take-take, length-take-le}
 use Rattle.algebra.specs.Lists.{all, flat_map, upward}
 use Rattle.algebra.specs.Plans.{always, columns_of, number_of, Test, test, unit, scan, select, project, distinct, group, sort, cross, semi, quant, fold, each, pair}
-use Rattle.algebra.specs.Places.{Operator, leaf_node, unary_node, binary_node, size, flatten}
+use Rattle.algebra.specs.Places.{Operator, leaf_node, unary_node, binary_node}
 use Rattle.algebra.proofs.Lists.{all_map}
 use Rattle.reading.specs.Bytes.{byte_at, unsigned_at, all_below}
 use Rattle.reading.specs.Versions.{cell_size, node_size, test_size, word_of, unsigned_code}

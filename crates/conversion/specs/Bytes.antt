@@ -1,5 +1,5 @@
 -- A set and a plan written in another version, and which of them can be (docs/DEFINITION.md, "The converter"). Definitions only.
-use Rattle.std.specs.Prelude.{ℕ, ◌*◌, Bool, ◌&&◌, List, ◌++◌, map, take, drop}
+use Rattle.std.specs.Prelude.{ℕ, ◌*◌, Bool, List, ◌++◌, map, take, drop}
 use Rattle.algebra.specs.Lists.{all, flat_map, upward}
 use Rattle.algebra.specs.Places.{flatten}
 use Rattle.reading.specs.TableSet.{table_mark, table_version, columns_of, rows_of, cells_of, cell_at, cell_allowed, table_from}

@@ -7,7 +7,7 @@ use lib.ListN.{length, take, drop, replicate, length-append}
 use lib.Seq.{take_at, drop_at}
 use borrow.Author.Tests.{le-ltb}
 use Rattle.algebra.specs.Lists.{flat_map}
-use Rattle.algebra.specs.Plans.{Row, Tables, Plan, columns}
+use Rattle.algebra.specs.Plans.{Row, Tables, Plan}
 use Rattle.algebra.specs.Refusals.{need}
 use Rattle.algebra.specs.Rules.{outside}
 use Rattle.reading.specs.TableSet.{tables_of}

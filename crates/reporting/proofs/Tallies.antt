@@ -7,7 +7,7 @@ use native.Mathlib.Nat.{add_comm, add_assoc, min_comm, max_comm}
 use native.Mathlib.Omega.{arith}
 use lib.Dec.{eqb, ltb, leb}
 use lib.ListN.{length, take, length-append}
-use borrow.Author.Tests.{eqb-true, leb-true, leb-false, ne_eqb, lt-ltb, le-leb, lt-leb}
+use borrow.Author.Tests.{eqb-true, leb-true, ne_eqb, lt-ltb, le-leb}
 use Rattle.algebra.specs.Lists.{filter, any, total}
 use Rattle.algebra.specs.Cells.{Aggregate, count, over, Summary, sum, least, greatest, blank, off_scale, origin, reach, in_range, is_blank, needs_all, sum_of, summary, aggregate, aggregate_within}
 use Rattle.algebra.specs.Plans.{Row}

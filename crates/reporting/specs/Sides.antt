@@ -1,6 +1,6 @@
 -- Columns found once for a node: where its keys, its test and its aggregate read their cells, of a left row and a right row. Private
 -- contracts speak of these. Definitions only.
-use Rattle.std.specs.Prelude.{ℕ, ◌<◌, Bool, true, false, ◌&&◌, ◌||◌, ◌≡◌, List, map, eqb, length, get_or, if◌then◌else◌}
+use Rattle.std.specs.Prelude.{ℕ, ◌<◌, Bool, true, ◌&&◌, ◌||◌, ◌≡◌, List, map, eqb, length, get_or, if◌then◌else◌}
 use Rattle.algebra.specs.Lists.{flip, filter, any}
 use Rattle.algebra.specs.Cells.{eq, compares, aggregate}
 use Rattle.algebra.specs.Plans.{Row, Env, bind, measure, holds}

@@ -1,9 +1,8 @@
 -- Rows written among cells: what one row of a node gives. Private contracts speak of them. Definitions only.
-use Rattle.std.specs.Prelude.{ℕ, ◌+◌, max, Bool, cond, ◌≡◌, List, [], ◌∷◌, ◌++◌, map, length, take, drop}
+use Rattle.std.specs.Prelude.{ℕ, ◌+◌, max, ◌≡◌, List, ◌++◌, map, length, take, drop}
 use Rattle.algebra.specs.Plans.{Row, Env, each, cut, emit}
-use Rattle.algebra.specs.Places.{Operator}
 use Rattle.reporting.specs.Positions.{picked}
-use Rattle.reporting.specs.Rows.{chunk, row_at, rows_from, Gives, env_of, gathered, emitted, emitted_columns, emitted_most}
+use Rattle.reporting.specs.Rows.{row_at, rows_from, Gives, env_of}
 
 -- after a row of w cells was written at a place: what stands before the place and behind the row is as it was
 pub record Written (at w : ℕ) (row : Row) (entry exit : List ℕ) : Type 0 where

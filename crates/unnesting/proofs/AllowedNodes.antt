@@ -7,7 +7,7 @@ use mathlib.Core.Bool.{Bool, true, false, not, ◌&&◌, ◌||◌}
 use mathlib.Core.List.{List}
 use mathlib.Core.Logic.{◌⊎◌, inl, inr}
 use lib.Dec.{eqb, leb, ltb}
-use lib.ListN.{length, take, drop, get_or-eq_default}
+use lib.ListN.{take, drop, get_or-eq_default}
 use lib.Seq.{get_or-drop}
 use borrow.Author.Tests.{le-leb, leb-true, ltb-true}
 use Rattle.algebra.specs.Cells.{in_range}

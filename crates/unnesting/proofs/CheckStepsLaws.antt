@@ -1,10 +1,9 @@
 -- The call that checks a list of steps: its list's number, and its ends. Assumes nothing.
 use Prim.Native.Nat.{ℕ, zero, suc, ◌+◌, ◌-◌, ◌%◌, ◌≤◌, ◌<◌}
 use mathlib.Core.Bool.{Bool, true, false, cond, ◌&&◌}
-use mathlib.Core.Path.{◌≡◌, refl, sym, ap, ap₂, ◌∙◌, subst}
+use mathlib.Core.Path.{◌≡◌, refl, sym, ap, ap₂, ◌∙◌}
 use mathlib.Core.List.{List, [], ◌∷◌}
 use native.Mathlib.Omega.{arith}
-use lib.Dec.{eqb, leb}
 use lib.ListN.{length, take, drop, get_or, length-drop, replicate}
 use borrow.Author.Tests.{lt-ltb, le-ltb, lt-leb, le-leb, eq-eqb, ne_eqb}
 use Rattle.algebra.specs.Lists.{all, same}
@@ -16,7 +15,6 @@ use Rattle.reading.specs.TableSet.{tables_of}
 use Rattle.reading.specs.Tree.{plan_of}
 use Rattle.reading.specs.Check.{input_refusal, check_of, check_as}
 use Rattle.reading.specs.declared.input.Checked.TheVariants.{Refused as InputRefused}
-use Rattle.reporting.specs.Report.{scratch_after}
 use Rattle.reporting.proofs.Reports.{answer-refused}
 use Rattle.unnesting.specs.Demand3.{bytes_left}
 use Rattle.unnesting.specs.CheckSteps.{listed, is_rule, list_number, reached_need, end_number, check_steps_number, StepsChecked}

@@ -1,5 +1,5 @@
 -- A list of steps followed over bytes: each step in its turn, from the plan given to the one that is held. Assumes nothing.
-use Prim.Native.Nat.{ℕ, zero, suc, ◌+◌, ◌*◌, ◌-◌, ◌/◌, max, ◌≤◌, ◌<◌}
+use Prim.Native.Nat.{ℕ, suc, ◌+◌, ◌-◌, ◌/◌, max, ◌≤◌, ◌<◌}
 use mathlib.Core.Bool.{true}
 use mathlib.Core.Path.{◌≡◌, refl, sym, ap, ◌∙◌, subst}
 use mathlib.Core.List.{List, [], ◌∷◌}
@@ -9,13 +9,13 @@ use lib.ListN.{length, take, drop, get_or, length-drop}
 use lib.Seq.{get_or-drop, drop-drop}
 use Rattle.algebra.specs.Plans.{Tables, Plan}
 use Rattle.algebra.specs.Refusals.{need, passes}
-use Rattle.algebra.specs.Steps.{Step, or_else, fits, follow, attempt, after, fitted, tried}
+use Rattle.algebra.specs.Steps.{Step, or_else, fits, attempt, after, fitted}
 use Rattle.reading.specs.TableSet.{tables_of}
 use Rattle.reading.specs.Tree.{plan_of}
 use Rattle.reading.specs.Encoding.{plan_bytes}
 use Rattle.reading.specs.Check.{input_refusal}
 use Rattle.unnesting.specs.Unnest.{passed_through, steps_need}
-use Rattle.unnesting.specs.Demand3.{bytes_left, steps_in}
+use Rattle.unnesting.specs.Demand3.{steps_in}
 use Rattle.unnesting.specs.CheckSteps.{listed, fitting, reached_need}
 use Rattle.unnesting.specs.Attempts.{Stored, Left, Arrives, Fails, Follows}
 use Rattle.unnesting.specs.declared.follow.Followed.{Followed}

@@ -8,7 +8,7 @@ use native.Mathlib.Omega.{arith}
 use native.Mathlib.Decide.{ℕ_discrete}
 use lib.Dec.{leb}
 use Rattle.algebra.specs.Lists.{flat_map}
-use Rattle.algebra.specs.Plans.{Tables, Test, test, plain, is_plain, select, Binary, cross, semi, each, Plan, one, two}
+use Rattle.algebra.specs.Plans.{Tables, Test, plain, is_plain, select, Binary, cross, semi, each, Plan, one, two}
 use Rattle.algebra.specs.Places.{unary_node, binary_node, size, flatten}
 use Rattle.algebra.specs.Names.{closed}
 use Rattle.algebra.specs.Rules.{local, when}

@@ -1,6 +1,6 @@
 -- The 32 bytes of a node (docs/DEFINITION.md, "A node"), and bytes written at a place. The contracts of helpers speak of these; the bytes
 -- of a plan's tree are the reading layer's `plan_bytes`. Definitions only.
-use Rattle.std.specs.Prelude.{ℕ, ◌+◌, Bool, false, List, [], ◌∷◌, ◌++◌, length, take, drop, replicate}
+use Rattle.std.specs.Prelude.{ℕ, ◌+◌, Bool, false, List, ◌∷◌, ◌++◌, length, take, drop, replicate}
 use Rattle.reading.specs.Encoding.{mark_byte, number_bytes}
 use Rattle.reading.specs.declared.plan.Test.{Test}
 use Rattle.reading.specs.declared.plan.Test.TheVariants.{Always, Columns, Number}

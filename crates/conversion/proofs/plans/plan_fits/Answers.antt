@@ -1,8 +1,7 @@
 use borrow.Author.Count.{below_none, below_more}
-use Prim.Native.Nat.{◌-◌, ◌<◌}
+use Prim.Native.Nat.{◌<◌}
 use native.Mathlib.Omega.{arith}
 use mathlib.Core.Path.{◌≡◌, sym, ap, ◌∙◌}
-use mathlib.Core.Bool.{true}
 use Rattle.reading.specs.Plan.{node_at, nodes_of}
 use Rattle.reading.specs.declared.plan.Node.{Node}
 use Rattle.reading.proofs.Laws.{all-holds, all-fails}

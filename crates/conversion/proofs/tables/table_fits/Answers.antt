@@ -1,9 +1,8 @@
 use borrow.Author.Count.{below_none, below_more}
-use Prim.Native.Nat.{ℕ, ◌*◌, ◌-◌, ◌<◌}
+use Prim.Native.Nat.{ℕ, ◌*◌, ◌<◌}
 use native.Mathlib.Omega.{arith}
 use native.Mathlib.Nat.{mul-le-mul}
 use mathlib.Core.Path.{◌≡◌, sym, ap, ap₂, ◌∙◌}
-use mathlib.Core.Bool.{true}
 use Rattle.reading.specs.TableSet.{columns_of, rows_of, cell_allowed}
 use Rattle.reading.proofs.Laws.{all-holds, all-fails}
 use Rattle.conversion.proofs.TableBytes.{word_in, word_at, words-all}

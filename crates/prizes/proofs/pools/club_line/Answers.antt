@@ -1,6 +1,4 @@
 use Rattle.prizes.proofs.ClubLines.{club-taken, club-passed, club-end}
-use borrow.Author.Tests.{not-true, not-false}
-use Prim.Native.Nat.{◌-◌}
 use mathlib.Core.Path.{sym, ◌∙◌}
 use native.Mathlib.Omega.{arith}
 use Rattle.prizes.specs.Helpers.{scores_in}

@@ -1,8 +1,6 @@
 use borrow.Author.Count.{below_none, below_more}
 use native.Mathlib.Omega.{arith}
-use Prim.Native.Nat.{◌-◌}
 use mathlib.Core.Path.{sym}
-use mathlib.Core.Bool.{true}
 use Rattle.reading.proofs.Laws.{all-holds, all-fails}
 use Rattle.reading.proofs.TreeNumbers.{capped_over, capped_within}
 use Rattle.reading.proofs.bound.bounds_low.Goals as goal

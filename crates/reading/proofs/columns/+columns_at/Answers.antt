@@ -1,6 +1,6 @@
 use native.Mathlib.Omega.{arith}
 use mathlib.Core.Path.{sym, ap, ◌∙◌}
-use Prim.Native.Nat.{◌-◌, min}
+use Prim.Native.Nat.{min}
 use Rattle.reading.specs.TableSet.{tables_of}
 use Rattle.reading.proofs.TreeNumbers.{past-number, leaf-number, one_number, two-number}
 use Rattle.reading.proofs.ColumnLaws.{widths, unit-width}

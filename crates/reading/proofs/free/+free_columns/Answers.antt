@@ -1,7 +1,5 @@
 use native.Mathlib.Omega.{arith}
-use Prim.Native.Nat.{◌-◌}
 use Rattle.algebra.specs.Names.{free}
-use Rattle.reading.specs.Plan.{nodes_of}
 use Rattle.reading.specs.TableSet.{tables_of}
 use Rattle.reading.proofs.Trees.{plan_past, second_at}
 use Rattle.reading.proofs.FlagLaws.{flags_none, flags_same, adds-first}

@@ -1,7 +1,5 @@
-use Prim.Native.Nat.{◌-◌}
 use native.Mathlib.Omega.{arith}
 use mathlib.Core.Path.{sym, ◌∙◌}
-use mathlib.Core.Bool.{false}
 use Rattle.reading.proofs.FreeLaws.{flags_meet, flags_apart, apart_next}
 use Rattle.reading.proofs.free.apart.Goals as goal
 

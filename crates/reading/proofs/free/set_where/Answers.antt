@@ -1,7 +1,6 @@
-use Prim.Native.Nat.{◌+◌, ◌-◌}
+use Prim.Native.Nat.{◌+◌}
 use native.Mathlib.Omega.{arith}
 use borrow.Author.Rules.{rules}
-use mathlib.Core.Logic.{⊎_elim}
 use Rattle.reading.proofs.FreeLaws.{SetSoFar, set-none, set-taken, set-passed, set-end}
 use Rattle.reading.proofs.free.set_where.Goals as goal
 use Rattle.reading.proofs.free.set_where.Goals.{then-at-k-eq1, else-at-k-eq1}

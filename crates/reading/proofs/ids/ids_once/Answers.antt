@@ -1,7 +1,6 @@
-use Prim.Native.Nat.{◌+◌, ◌-◌}
+use Prim.Native.Nat.{◌+◌}
 use native.Mathlib.Omega.{arith}
 use mathlib.Core.Path.{◌≡◌, refl, sym, ◌∙◌}
-use mathlib.Core.Bool.{true}
 use Rattle.algebra.specs.Refusals.{once}
 use Rattle.reading.specs.TableSet.{tables_of}
 use Rattle.reading.specs.Plan.{nodes_of}

@@ -1,5 +1,5 @@
 use native.Mathlib.Omega.{arith}
-use Prim.Native.Nat.{◌-◌, ◌+◌}
+use Prim.Native.Nat.{◌+◌}
 use Rattle.reading.specs.TableSet.{tables_of}
 use Rattle.reading.specs.Tree.{plan_at}
 use Rattle.reading.proofs.NeedLaws.{capped_share-most, capped_part-most, past-part, leaf-part, one-part, two-part}

@@ -1,10 +1,7 @@
 use borrow.Author.Count.{below_none, below_more}
 use borrow.Author.Tests.{le-leb, lt-leb}
-use Prim.Native.Nat.{◌-◌}
 use native.Mathlib.Omega.{arith}
 use mathlib.Core.Path.{sym}
-use mathlib.Core.Bool.{true}
-use Rattle.reading.specs.Bytes.{byte_at}
 use Rattle.reading.proofs.Laws.{all-holds, all-fails}
 use Rattle.reading.proofs.plan.bytes_within.Goals as goal
 

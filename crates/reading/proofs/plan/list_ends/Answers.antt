@@ -1,10 +1,8 @@
 use borrow.Author.Count.{below_more}
 use borrow.Author.Tests.{lt-ltb, le-ltb, eq-eqb, ne_eqb}
-use Prim.Native.Nat.{◌-◌}
 use native.Mathlib.Omega.{arith}
 use mathlib.Core.Path.{sym}
-use mathlib.Core.Bool.{true, or-true}
-use Rattle.reading.specs.Bytes.{byte_at}
+use mathlib.Core.Bool.{or-true}
 use Rattle.reading.proofs.Laws.{all-holds, all-fails}
 use Rattle.reading.specs.Plan.{list_ends}
 use Rattle.reading.proofs.plan.list_ends.Goals as goal

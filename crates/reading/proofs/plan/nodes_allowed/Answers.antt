@@ -1,9 +1,7 @@
 use borrow.Author.Count.{below_none, below_more}
-use Prim.Native.Nat.{◌-◌}
 use native.Mathlib.Omega.{arith}
 use mathlib.Core.Path.{sym, ap, ◌∙◌}
-use mathlib.Core.Bool.{true}
-use Rattle.reading.specs.Plan.{node_part, fields_allowed, nodes_allowed}
+use Rattle.reading.specs.Plan.{fields_allowed, nodes_allowed}
 use Rattle.reading.proofs.Laws.{all-holds, all-fails}
 use Rattle.reading.proofs.plan.nodes_allowed.Goals as goal
 

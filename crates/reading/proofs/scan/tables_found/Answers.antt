@@ -1,8 +1,6 @@
-use Prim.Native.Nat.{◌-◌}
 use native.Mathlib.Omega.{arith}
 use borrow.Author.Count.{below_more}
 use mathlib.Core.Path.{◌≡◌, sym, ◌∙◌}
-use mathlib.Core.Bool.{true}
 use Rattle.algebra.specs.Refusals.{found}
 use Rattle.reading.specs.Plan.{nodes_of}
 use Rattle.reading.specs.Tree.{operator_at}

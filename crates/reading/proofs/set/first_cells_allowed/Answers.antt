@@ -1,8 +1,6 @@
 use borrow.Author.Count.{below_none, below_more}
-use Prim.Native.Nat.{◌-◌}
 use native.Mathlib.Omega.{arith}
 use mathlib.Core.Path.{refl, sym, ap, ◌∙◌}
-use mathlib.Core.Bool.{true}
 use Rattle.reading.specs.TableSet.{cell_allowed, cells_allowed}
 use Rattle.reading.specs.declared.version.Version.TheVariants.{First}
 use Rattle.reading.proofs.Laws.{all-holds, all-fails}

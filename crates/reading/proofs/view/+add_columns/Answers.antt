@@ -1,7 +1,5 @@
 use native.Mathlib.Omega.{arith}
-use Prim.Native.Nat.{◌-◌}
 use Rattle.algebra.specs.Plans.{columns}
-use Rattle.reading.specs.Plan.{nodes_of}
 use Rattle.reading.specs.TableSet.{tables_of}
 use Rattle.reading.specs.Nodes.{own_columns, part_of}
 use Rattle.reading.proofs.Trees.{plan_past, second_at, first_tree, second_tree}

@@ -1,10 +1,8 @@
 use native.Mathlib.Omega.{arith}
 use mathlib.Core.Path.{refl, sym, ap, ◌∙◌}
 use mathlib.Core.List.{◌++◌}
-use Prim.Native.Nat.{◌-◌}
 use Rattle.algebra.specs.Plans.{columns}
 use Rattle.algebra.specs.Refusals.{in_view}
-use Rattle.reading.specs.Plan.{nodes_of}
 use Rattle.reading.specs.Tree.{operator_of}
 use Rattle.reading.specs.TableSet.{tables_of}
 use Rattle.reading.specs.Nodes.{inner_columns}

@@ -1,5 +1,5 @@
 use mathlib.Core.Path.{◌≡◌}
-use Prim.Native.Nat.{suc, ◌-◌, ◌≤◌}
+use Prim.Native.Nat.{suc, ◌≤◌}
 use lib.ListN.{length, take, drop}
 use Rattle.algebra.specs.Lists.{any, same}
 use Rattle.reporting.specs.Rows.{chunk}

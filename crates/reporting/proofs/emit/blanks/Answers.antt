@@ -1,5 +1,4 @@
 use mathlib.Core.Path.{◌≡◌, refl}
-use Prim.Native.Nat.{◌-◌}
 use native.Mathlib.Omega.{arith}
 use lib.ListN.{length-set, replicate-append-replicate}
 use Rattle.reporting.proofs.Copies.{written_none, written-more, written_as}

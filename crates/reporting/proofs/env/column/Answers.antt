@@ -1,5 +1,4 @@
 use mathlib.Core.Path.{refl, sym, ap, ◌∙◌}
-use Prim.Native.Nat.{◌-◌}
 use native.Mathlib.Omega.{arith}
 use Rattle.reporting.specs.Rows.{env_of}
 use Rattle.reporting.proofs.Envs.{bind_hit, bind_miss, bind-past}

@@ -1,16 +1,16 @@
 -- The measures of the evaluator's cycle, and what its loop keeps.
 use Prim.Native.Nat.{◌-◌, ◌+◌, ◌*◌}
 use Rattle.reading.specs.Tree.{plan_at}
-use mathlib.Core.Path.{◌≡◌, refl, ap, ◌∙◌}
-use Prim.Native.Nat.{ℕ, ◌+◌, ◌*◌, ◌-◌, ◌≤◌}
+use mathlib.Core.Path.{◌≡◌}
+use Prim.Native.Nat.{◌+◌, ◌*◌, ◌-◌}
 use lib.ListN.{length}
 use Rattle.algebra.specs.Lists.{flat_map}
 use Rattle.reading.specs.TableSet.{tables_of}
 use Rattle.reading.specs.Tree.{operator_of, plan_at}
 use Rattle.reporting.specs.Rows.{rows_from, env_of, emitted_columns, emitted_most}
-use Rattle.reporting.specs.Evaluation.{columns_at, bound_at, StepRoom, nested_row}
-use Rattle.reporting.proofs.Building.{Building, building_start, building_done, building_turn, building_row, turn_below, turn-ends}
-use Prim.Native.Nat.{ℕ, ◌+◌, ◌*◌, ◌-◌, ◌≤◌}
+use Rattle.reporting.specs.Evaluation.{columns_at, bound_at, nested_row}
+use Rattle.reporting.proofs.Building.{Building}
+use Prim.Native.Nat.{◌+◌, ◌*◌, ◌-◌}
 use Rattle.algebra.specs.Places.{size}
 use Rattle.reporting.proofs.eval.+eval_nested_at_nested_loop_row_step.Given as goal
 

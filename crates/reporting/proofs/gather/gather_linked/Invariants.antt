@@ -1,4 +1,4 @@
-use Prim.Native.Nat.{suc, ◌-◌}
+use Prim.Native.Nat.{suc}
 use lib.ListN.{length, drop}
 use Rattle.reporting.specs.Index.{chain}
 use Rattle.reporting.specs.Rows.{rows_from}

@@ -3,7 +3,6 @@ use mathlib.Core.List.{List, []}
 use Prim.Native.Nat.{ℕ, ◌+◌, ◌*◌, ◌-◌, ◌≤◌}
 use native.Mathlib.Omega.{arith}
 use lib.ListN.{length, drop, take}
-use borrow.Author.Tests.{not-true, not-false}
 use Rattle.reporting.specs.Sides.{side_cell}
 use Rattle.reporting.proofs.Chunks.{turns}
 use Rattle.reporting.proofs.Groups.{grouping_start, grouping_done, grouping_seen, grouping_new}

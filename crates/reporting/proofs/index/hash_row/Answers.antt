@@ -1,5 +1,4 @@
 use mathlib.Core.Path.{refl, sym, ap, ◌∙◌}
-use Prim.Native.Nat.{◌-◌}
 use native.Mathlib.Omega.{arith}
 use Rattle.reporting.specs.Index.{bucket_of}
 use Rattle.reporting.proofs.Chains.{mixed-next, mixed-end}

@@ -1,5 +1,4 @@
 use mathlib.Core.Path.{sym, ◌∙◌, subst}
-use mathlib.Core.Bool.{false}
 use Rattle.reporting.specs.Rows.{env_of}
 use Rattle.reporting.specs.Sides.{PlacesFor, FoundSomewhere}
 use Rattle.reporting.proofs.matching.rows_of_each.Goals as goal

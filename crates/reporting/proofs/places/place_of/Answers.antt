@@ -1,4 +1,3 @@
-use Prim.Native.Nat.{◌-◌}
 use native.Mathlib.Omega.{arith}
 use Rattle.reporting.proofs.Alike.{place_here, place-on, place_end}
 use Rattle.reporting.proofs.places.place_of.Goals as goal

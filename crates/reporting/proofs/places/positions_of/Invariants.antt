@@ -1,7 +1,7 @@
 use Rattle.reporting.specs.Positions.{positions}
 use mathlib.Core.Path.{◌≡◌}
 use mathlib.Core.List.{◌++◌}
-use Prim.Native.Nat.{◌+◌, ◌-◌, ◌≤◌}
+use Prim.Native.Nat.{◌-◌, ◌≤◌}
 use lib.ListN.{length, drop, take}
 use Rattle.reporting.proofs.places.positions_of.Given as goal
 

@@ -10,7 +10,7 @@ use Rattle.reporting.specs.Rows.{chunk}
 use Rattle.reporting.specs.Sides.{condition_holds, ConditionInside}
 use Rattle.reporting.proofs.Sides.{condition_wider, condition_left, condition_right}
 use Rattle.reporting.proofs.Copies.{written_copy}
-use Rattle.reporting.proofs.Building.{kept, filter-kept, building_start, building_row, kept-below, kept-turn, skipped_turn, kept-done}
+use Rattle.reporting.proofs.Building.{filter-kept, building_start, building_row, kept-below, kept-turn, skipped_turn, kept-done}
 use Rattle.reporting.proofs.select.select.Goals as goal
 use Rattle.reporting.proofs.select.select.Goals.{then-condition_holds, else-condition_holds}
 use Rattle.reporting.proofs.select.select.Goals.{In-loop-i}

@@ -1,5 +1,5 @@
 use mathlib.Core.Path.{◌≡◌}
-use Prim.Native.Nat.{suc, ◌-◌}
+use Prim.Native.Nat.{suc}
 use lib.ListN.{length, drop}
 use Rattle.algebra.specs.Lists.{any}
 use Rattle.reporting.specs.Index.{chain}

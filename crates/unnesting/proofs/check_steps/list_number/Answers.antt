@@ -1,7 +1,6 @@
 use native.Mathlib.Omega.{arith}
 use mathlib.Core.Path.{refl, ◌∙◌}
 use mathlib.Core.Bool.{true, false}
-use Prim.Native.Nat.{◌-◌}
 use Rattle.unnesting.proofs.CheckStepsLaws.{list_odd, list-rules, rules-end, rules-next, rules-low, rules-high}
 use Rattle.unnesting.proofs.check_steps.list_number.Goals as goal
 

@@ -1,6 +1,5 @@
 use native.Mathlib.Omega.{arith}
 use mathlib.Core.Path.{ap, ◌∙◌}
-use Prim.Native.Nat.{◌-◌}
 use Rattle.reading.specs.TableSet.{tables_of}
 use Rattle.reading.specs.Tree.{operator_of, plan_of}
 use Rattle.reading.specs.declared.plan.Node.{Node}
