@@ -8,6 +8,7 @@ mod write;
 use conversion::convert::{Converted, convert_down, convert_up};
 use files::{read_file, set_bytes};
 use reading::bytes::{head, starts_with};
+use std::alloc::Global;
 use std::env::Env;
 use std::rt::Files;
 use write::write_both;
@@ -25,13 +26,19 @@ fn show_bytes(rt: &impl Print, name: &str, bytes: usize) {
 }
 
 // Writes what the call gave, or prints its refusal.
-fn keep(rt: &(impl Files + Print + Eprint), answer: Converted, set: &[u8], plan: &[u8]) {
+fn keep(
+    rt: &(impl Files + Print + Eprint),
+    alloc: Global,
+    answer: Converted,
+    set: &[u8],
+    plan: &[u8],
+) {
     let refusal = answer.refusal;
     if refusal != 0 {
         let _ = println!(rt; "refused {refusal}");
         return;
     }
-    if write_both(rt, head(set, answer.set), head(plan, answer.plan)) {
+    if write_both(rt, alloc, head(set, answer.set), head(plan, answer.plan)) {
         show_bytes(rt, "set", answer.set);
         show_bytes(rt, "plan", answer.plan);
     }
@@ -40,6 +47,7 @@ fn keep(rt: &(impl Files + Print + Eprint), answer: Converted, set: &[u8], plan:
 // Converts one way or the other, with buffers to write in.
 fn convert(
     rt: &(impl Files + Print + Eprint),
+    alloc: Global,
     up: bool,
     set: &[u8],
     plan: &[u8],
@@ -51,7 +59,7 @@ fn convert(
     } else {
         convert_down(set, plan, out_set, out_plan)
     };
-    keep(rt, answer, out_set, out_plan);
+    keep(rt, alloc, answer, out_set, out_plan);
 }
 
 // The plan's buffer has one byte more than the longest plan, so that a longer file is turned back as the whole of it would be.
@@ -69,6 +77,7 @@ fn main(rt: HostRuntime) {
     let mut out_plan = [0u8; 2054];
     convert(
         &rt,
+        rt.alloc(),
         up,
         head(&set, set_length),
         head(&plan, plan_length),

@@ -1,4 +1,5 @@
 // The two files that the program writes: both, or neither.
+use std::alloc::{AllocError, Global};
 use std::fs::OpenOptions;
 use std::io::Write;
 use std::rt::Files;
@@ -16,9 +17,24 @@ fn create<R: Files>(rt: &R, name: &str) -> io::Result<R::File> {
         .open(rt, name)
 }
 
+// Why something failed, in the system's words, without the error's number, which std puts behind them.
+fn reason(alloc: Global, error: &io::Error) -> Result<String, AllocError> {
+    let whole = format!(in alloc; "{error}")?;
+    let code = error.raw_os_error().unwrap_or(0);
+    let number = format!(in alloc; " (os error {code})")?;
+    let words = whole
+        .as_str()
+        .strip_suffix(number.as_str())
+        .unwrap_or(whole.as_str());
+    format!(in alloc; "{words}")
+}
+
 // Says on standard error what failed, and why.
-fn fail(rt: &impl Eprint, what: &str, error: io::Error) {
-    let _ = eprintln!(rt; "{what}: {error}");
+fn fail(rt: &impl Eprint, alloc: Global, what: &str, error: io::Error) {
+    let _ = match reason(alloc, &error) {
+        Ok(words) => eprintln!(rt; "{what}: {words}"),
+        Err(_) => eprintln!(rt; "{what}: {error}"),
+    };
 }
 
 // Removes a file that the program has made, as far as it can.
@@ -34,6 +50,7 @@ fn fill(mut file: impl Write + Drop, bytes: &[u8]) -> io::Result<()> {
 // Writes both to open files, and says whether all of both was written. Where one cannot be written, neither is left.
 fn fill_both<R: Files + Eprint>(
     rt: &R,
+    alloc: Global,
     set_file: R::File,
     plan_file: R::File,
     set: &[u8],
@@ -44,7 +61,7 @@ fn fill_both<R: Files + Eprint>(
     match plan_written.and(set_written) {
         Ok(()) => true,
         Err(e) => {
-            fail(rt, "converted.tbl, converted.rpt", e);
+            fail(rt, alloc, "converted.tbl, converted.rpt", e);
             unlink(rt, SET);
             unlink(rt, PLAN);
             false
@@ -53,22 +70,27 @@ fn fill_both<R: Files + Eprint>(
 }
 
 // Makes both files and writes them, and says whether it did. A name that is taken is left as it is, and then nothing is written.
-pub(crate) fn write_both(rt: &(impl Files + Eprint), set: &[u8], plan: &[u8]) -> bool {
+pub(crate) fn write_both(
+    rt: &(impl Files + Eprint),
+    alloc: Global,
+    set: &[u8],
+    plan: &[u8],
+) -> bool {
     let set_file = match create(rt, SET) {
         Ok(file) => file,
         Err(e) => {
-            fail(rt, SET, e);
+            fail(rt, alloc, SET, e);
             return false;
         }
     };
     let plan_file = match create(rt, PLAN) {
         Ok(file) => file,
         Err(e) => {
-            fail(rt, PLAN, e);
+            fail(rt, alloc, PLAN, e);
             drop(set_file);
             unlink(rt, SET);
             return false;
         }
     };
-    fill_both(rt, set_file, plan_file, set, plan)
+    fill_both(rt, alloc, set_file, plan_file, set, plan)
 }
