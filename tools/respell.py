@@ -10,9 +10,11 @@ Names of Rattle source (functions, fields, modules), strings and exported names 
 import collections
 import os
 import re
+import subprocess
 import sys
 
-LIBRARY = "/opt/rattle/rattle"
+# the kit's library: the folder beside the page that `rt doc` names
+LIBRARY = os.path.join(os.path.dirname(subprocess.run(["rt", "doc"], capture_output=True, text=True, check=True).stdout.strip()), "rattle")
 DEFINED = re.compile(r"^\s*(?:abbrev |unfoldable )?(?:pub )?([^\s(){}.;,@\"«»:]+)\s*(?:\{[^}]*\}\s*)*:(?:\s|$)")
 WORD = re.compile(r"[A-Za-z_ℕℤ0-9?'≡≢≤<>+*-]+")
 CAMEL = re.compile(r"^[a-z][a-z0-9']*(?:[A-Z][A-Za-z0-9']*)+(?:-.*)?$")
