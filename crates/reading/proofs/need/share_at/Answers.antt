@@ -9,6 +9,7 @@ use Rattle.reading.proofs.NeedLaws.{capped_share-most}
 use Rattle.reading.proofs.need.share_at.Goals as goal
 use Rattle.reading.proofs.need.share_at.Goals.{After-columns_at}
 
+-- the product of what was read is what the node counts: the node that was read is the tree's root
 share-here : (c : After-columns_at) → c.counted_rows-rows.result * c.columns_at.result ≡ capped_share (tables_of c.args.set.now) (plan_at c.args.plan.now c.args.i)
 share-here c =
     let a = c.args in

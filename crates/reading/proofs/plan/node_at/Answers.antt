@@ -10,6 +10,7 @@ use Rattle.reading.proofs.VersionLaws.{node-fits, node_past}
 use Rattle.reading.proofs.plan.node_at.Goals as goal
 use Rattle.reading.proofs.plan.node_at.Goals.{After-node_size-size}
 
+-- the size is that of the plan's version
 size_is : (c : After-node_size-size) → c.node_size-size.result ≡ node_size (plan_version c.args.plan.now)
 size_is c = c.node_size-size.ensures.value ∙ ap node_size c.version_at-version.ensures
 

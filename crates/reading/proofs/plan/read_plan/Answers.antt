@@ -9,6 +9,7 @@ use Rattle.reading.specs.Plan.{plan_mark, read_plan_as}
 use Rattle.reading.proofs.plan.read_plan.Goals as goal
 use Rattle.reading.proofs.plan.read_plan.Goals.{After-starts_with}
 
+-- the mark that is compared is the version's
 marked-is : (c : After-starts_with)
     → let a = c.args in
     c.starts_with.result ≡ starts_with (plan_mark a.version) a.plan.now

@@ -11,6 +11,7 @@ ranged : (c : After-bytes_within)
     → let a = c.args in
     c.bytes_within.result ≡ limited (test_size a.version) (drop 16 a.node.now) (drop (test_row a.has (byte_at a.node.now 16)) test_limits)
 ranged c =
+    -- the row of limits that the two ways lead to
     let row : c.if-has-eq0.row ≡ test_row c.args.has (byte_at c.args.node.now 16) = elim c.if-has-eq0.branch [
       | then-has-eq0 w ↦ rw (eq-eqb _ _ w.if-has-eq0.true) w.row-is
       | else-has-eq0 w ↦ rw (ne_eqb _ _ w.if-has-eq0.false, ← c.byte_at-form.ensures) w.row-is

@@ -12,9 +12,11 @@ use Rattle.reading.proofs.Laws.{rest-is, cells_are_lem, read_short, read-mark, r
 use Rattle.reading.proofs.set.read_table.Goals as goal
 use Rattle.reading.proofs.set.read_table.Goals.{After-starts_with, After-table-1, Else-not-size_allowed, Else-not-starts_with, Else-table-lt8, Else-table-size}
 
+-- the table, as the part of the set that is looked at
 abbrev table : List ℕ → ℕ → List ℕ
 table set at = take (length set - at) (drop at set)
 
+-- what is known after each test that failed
 long : (c : Else-table-lt8) → 8 ≤ length (table c.args.set.now c.args.at)
 long c = omega arith
 

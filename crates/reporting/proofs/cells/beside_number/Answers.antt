@@ -14,6 +14,7 @@ none-unequal false true r = refl
 none-unequal false false true = refl
 none-unequal false false false = refl
 
+-- of the six codes 1 is ≠
 unequal-code : (k : ℕ) → eqb k 1 ≡ is_unequal (comparison_of k)
 unequal-code k = go (eqb k 0) (eqb k 1) refl refl
   where

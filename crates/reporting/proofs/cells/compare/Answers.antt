@@ -4,6 +4,7 @@ use Rattle.algebra.specs.Cells.{is_blank, is_number, compares}
 use Rattle.reporting.proofs.cells.compare.Goals as goal
 use Rattle.reporting.proofs.cells.compare.Goals.{After-is_number-right}
 
+-- whether each side is a number
 left : (c : After-is_number-right) → is_number c.args.a ≡ c.is_number-left.result
 left c = sym c.is_number-left.ensures
 

@@ -12,6 +12,7 @@ use Rattle.reporting.proofs.distinct.distinct_all.Goals as goal
 use Rattle.reporting.proofs.distinct.distinct_all.Goals.{then-not-seen, else-not-seen}
 use Rattle.reporting.proofs.distinct.distinct_all.Goals.{In-loop-i}
 
+-- the row at hand lies within the cells, and its place at the front lies below it
 in_row : (c : In-loop-i) → (c.loop-i.src + c.args.w ≤ length c.loop-i.cells) × (c.loop-i.dst ≤ c.loop-i.src) × ((c.loop-i.out * c.args.w ≤ length c.loop-i.cells) × (c.loop-i.src + c.args.w ≤ length c.loop-i.cells))
 in_row c =
     let a = c.args in

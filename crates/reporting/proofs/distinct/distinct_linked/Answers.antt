@@ -14,6 +14,7 @@ use Rattle.reporting.proofs.distinct.distinct_linked.Goals as goal
 use Rattle.reporting.proofs.distinct.distinct_linked.Goals.{then-not-seen_linked, else-not-seen_linked}
 use Rattle.reporting.proofs.distinct.distinct_linked.Goals.{After-hash_row-b, In-loop-i}
 
+-- the row at hand lies within the cells, its place at the front lies below it, and a row more may be kept
 in_row : (c : In-loop-i) → (c.loop-i.src + c.args.w ≤ length c.loop-i.cells) × (c.loop-i.dst ≤ c.loop-i.src) × (c.loop-i.out * c.args.w ≤ length c.loop-i.cells) × (c.loop-i.out < c.args.m)
 in_row c =
     let a = c.args in
@@ -21,6 +22,7 @@ in_row c =
     let p = l.invariant.0 in
     omega (arith, turns a.m a.w l.i c.loop-i-test.true, mono l.out l.i a.w p.few, p.src_at, p.dst-at, p.long, p.few, c.loop-i-test.true, c.requires.m_bound)
 
+-- the bucket of the row at hand
 at : (c : After-hash_row-b) → c.hash_row-b.result ≡ row_slot (take c.args.w (drop c.loop-i.src c.loop-i.cells))
 at c = c.hash_row-b.ensures.1 ∙ ap row_slot (sym (part-row c.loop-i.src c.args.w c.loop-i.cells))
 

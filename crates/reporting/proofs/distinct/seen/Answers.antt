@@ -13,11 +13,13 @@ use Rattle.reporting.proofs.Chunks.{turns, times_suc, part-row, part_length}
 use Rattle.reporting.proofs.distinct.seen.Goals as goal
 use Rattle.reporting.proofs.distinct.seen.Goals.{After-same_row, In-loop-i}
 
+-- the row at hand lies within the cells
 in_row : (c : In-loop-i) → c.loop-i.at + c.args.w ≤ length c.args.cells.now
 in_row c =
     let a = c.args in
     omega (arith, turns a.k a.w c.loop-i.i c.loop-i-test.true, c.loop-i.invariant.1)
 
+-- what the call says of the row at hand
 row : (c : After-same_row) → same (take c.args.w (drop c.loop-i.at c.args.cells.now)) (take c.args.w (drop c.args.src c.args.cells.now)) ≡ c.same_row.result
 row c =
     let a = c.args in

@@ -15,9 +15,11 @@ use Rattle.reporting.proofs.Firsts.{same-only}
 use Rattle.reporting.proofs.distinct.seen_linked.Goals as goal
 use Rattle.reporting.proofs.distinct.seen_linked.Goals.{After-same_row, Else-steps-eq-LONG_CHAIN, In-loop-h}
 
+-- the link at hand is one
 linked : (c : In-loop-h) → 0 < c.loop-h.h
 linked c = omega (arith, c.loop-h-test.true)
 
+-- the row at hand lies within the cells
 inside : (c : In-loop-h) → (c.loop-h.h - 1 < c.args.k) × ((c.loop-h.h - 1) * c.args.w + c.args.w ≤ length c.args.cells.now)
 inside c =
     let a = c.args in
@@ -25,9 +27,11 @@ inside c =
     let i : l.h - 1 < a.k = walk_inside a.k a.next.now l.h l.invariant.0 (linked (c)) in
     (i, omega (arith, turns a.k a.w (l.h - 1) i, c.requires.w_in_bounds))
 
+-- one step more is within the bound
 step : (c : Else-steps-eq-LONG_CHAIN) → c.loop-h.steps + 1 ≤ 8
 step c = omega (arith, c.loop-h.invariant.2, c.if-steps-eq-LONG_CHAIN.false)
 
+-- the row at hand, as it was compared
 row : (c : After-same_row) → same (nth (chunk c.args.k c.args.w c.args.cells.now) (c.loop-h.h - 1)) (take c.args.w (drop c.args.src c.args.cells.now)) ≡ c.same_row.result
 row c =
     let here-inside : (c.loop-h.h - 1 < c.args.k) × ((c.loop-h.h - 1) * c.args.w + c.args.w ≤ length c.args.cells.now) = let here-linked : 0 < c.loop-h.h = omega (arith, c.loop-h-test.true) in

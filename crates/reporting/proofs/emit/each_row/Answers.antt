@@ -8,6 +8,7 @@ use Rattle.reporting.proofs.Emits.{each-joined, each-blank}
 use Rattle.reporting.proofs.emit.each_row.Goals as goal
 use Rattle.reporting.proofs.emit.each_row.Goals.{Else-k-gt0}
 
+-- there is room for one row
 one-row : (c : Else-k-gt0) → c.args.dst + (c.args.w + length c.args.jds.now) ≤ c.args.src
 one-row c =
     let a = c.args in

@@ -9,6 +9,7 @@ use Rattle.reporting.proofs.Emits.{two-children, crosses, eaches, gathers, keepi
 use Rattle.reporting.proofs.emit.emit_row.Goals as goal
 use Rattle.reporting.proofs.emit.emit_row.Goals.{Else-kind-eq12, Start}
 
+-- a kind that keeps rows
 keeping-kind : (c : Else-kind-eq12) → (6 ≤ c.args.node.kind) × (c.args.node.kind ≤ 9)
 keeping-kind c =
     let (low, high) = two-children c.args.node c.requires.found_inside.2 in
@@ -18,6 +19,7 @@ keeping-kind c =
     let not-12 = c.if-kind-eq12.false in
     omega arith
 
+-- the columns lie in the cells from src on
 found_inside : (c : Start) → FoundInside c.args.found (length c.args.cells.now - c.args.src) (length c.args.jds.now)
 found_inside c =
     let a = c.args in

@@ -11,6 +11,7 @@ use Rattle.reporting.proofs.Building.{map-single, building_start, building_row, 
 use Rattle.reporting.proofs.emit.join_rows.Goals as goal
 use Rattle.reporting.proofs.emit.join_rows.Goals.{In-loop-i}
 
+-- the row at hand lies within the cells, and there is room for what it gives
 in_row : (c : In-loop-i) → (c.loop-i.from + c.args.v ≤ length c.loop-i.cells) × (c.args.behind ≤ c.loop-i.from) × (c.loop-i.to + (c.args.w + c.args.v) ≤ c.args.k * (c.args.w + c.args.v))
 in_row c =
     let p = c.loop-i.invariant.0 in

@@ -15,15 +15,18 @@ use Rattle.reporting.proofs.Known.{kept-counted}
 use Rattle.reporting.proofs.emit.known_row.Goals as goal
 use Rattle.reporting.proofs.emit.known_row.Goals.{Else-kind-eq12, Start}
 
+-- the columns lie in the cells from src on
 found_inside : (c : Start) → FoundInside c.args.found (length c.args.cells.now - c.args.src) (length c.args.jds.now)
 found_inside c =
     let a = c.args in
     let p = c.requires in
     found_wider a.found (length a.ids.now) (length a.jds.now) (length a.cells.now - a.src) (length a.jds.now) p.found_inside.0 (omega (arith, p.step_room.0.apart, p.step_room.1)) (omega arith)
 
+-- a Semi or an Anti
 keeping-kind : (c : Else-kind-eq12) → (6 ≤ c.args.node.kind) × (c.args.node.kind ≤ 7)
 keeping-kind c = keyed_kinds c.args.node c.requires.kind_value.0 c.requires.kind_value.1 c.if-kind-eq12.false
 
+-- whether the row is kept
 kept : (c : Else-kind-eq12) → let a = c.args in (env : Env) → FoundFor a.node a.ids.now a.jds.now env a.found → keeps_row a.node.kind a.found (drop a.src a.cells.now) (rows_from a.behind a.k (length a.jds.now) a.cells.now) ≡ not (beq (not (eqb c.gather_known-cell.result 9223372036854775808)) (eqb a.node.kind 7))
 kept c env found =
     let a = c.args in

@@ -14,15 +14,18 @@ use Rattle.reporting.proofs.Emits.{keyed_kinds, gathers, keeping, keeps_other, c
 use Rattle.reporting.proofs.emit.linked_row.Goals as goal
 use Rattle.reporting.proofs.emit.linked_row.Goals.{After-any_linked, Else-kind-eq12, Start}
 
+-- a Semi or an Anti
 keeping-kind : (c : Else-kind-eq12) → (6 ≤ c.args.node.kind) × (c.args.node.kind ≤ 7)
 keeping-kind c = keyed_kinds c.args.node c.requires.kind_value.0 c.requires.kind_value.1 c.if-kind-eq12.false
 
+-- the columns lie in the cells from src on
 found_inside : (c : Start) → FoundInside c.args.found (length c.args.cells.now - c.args.src) (length c.args.jds.now)
 found_inside c =
     let a = c.args in
     let p = c.requires in
     found_wider a.found (length a.ids.now) (length a.jds.now) (length a.cells.now - a.src) (length a.jds.now) p.found_inside.0 (omega (arith, p.step_room.0.apart, p.step_room.1)) (omega arith)
 
+-- whether the row is kept
 kept : (c : After-any_linked) → let a = c.args in
     keeps_row a.node.kind a.found (drop a.src a.cells.now) (rows_from a.behind a.k (length a.jds.now) a.cells.now) ≡ not (beq c.any_linked.result (eqb a.node.kind 7))
 kept c =

@@ -31,12 +31,14 @@ eval-here t c = omega (arith, c.if-nodes_of-at.false, c.nodes_of.ensures.0)
 eval-kinds : (t : ℕ) (c : eval-After-children_of-children t) → c.children_of-children.result ≡ arity (operator_of c.node_at-node.result)
 eval-kinds t c = c.children_of-children.ensures ∙ arity_of c.node_at-node.result
 
+-- the node has a first child
 eval-first : (t : ℕ) (c : eval-Else-children-eq0 t) → let a = c.args in First (tables_of a.set.now) (operator_of c.node_at-node.result) (plan_at a.plan.now a.at) (plan_at a.plan.now (a.at + 1))
 eval-first t c =
     let here-here : let a = c.args in a.at < nodes_of a.plan.now = omega (arith, c.if-nodes_of-at.false, c.nodes_of.ensures.0) in
     let here-kinds : c.children_of-children.result ≡ arity (operator_of c.node_at-node.result) = c.children_of-children.ensures ∙ arity_of c.node_at-node.result in
     let a = c.args in first-at (tables_of a.set.now) a.plan.now a.at c.node_at-node.result (here-here) c.node_at-node.ensures (λ e. c.if-children-eq0.false (here-kinds ∙ e))
 
+-- after the first child: the whole has its length, and the child's rows lie in the part
 eval-back : (t : ℕ) (c : eval-After-eval-m t) → let a = c.args in let own = c.share_at-own.result in let last = c.eval-m.new.cells in (length (put_mid own (length a.cells.now - own) a.cells.now last) ≡ length a.cells.now) × Kid (tables_of a.set.now) (plan_at a.plan.now (a.at + 1)) (env_of a.env.now) c.eval-m.result last
 eval-back t c =
     let here-first : let a = c.args in First (tables_of a.set.now) (operator_of c.node_at-node.result) (plan_at a.plan.now a.at) (plan_at a.plan.now (a.at + 1)) = let here-here : let a = c.args in a.at < nodes_of a.plan.now = omega (arith, c.if-nodes_of-at.false, c.nodes_of.ensures.0) in
@@ -48,12 +50,14 @@ eval-back t c =
     let len : length last ≡ length a.cells.now - own = c.eval-m.auto.cells ∙ tail_length own a.cells.now in
     (same_len_mid own (length a.cells.now - own) a.cells.now last c.eval-m.auto.cells, kid_of (child_ready c.requires (here-first) c.share_at-own.ensures.0 (length last) len) c.eval-m.ensures)
 
+-- it is the only one
 eval-only : (t : ℕ) (c : eval-Then-children-eq1 t) → let a = c.args in Single (tables_of a.set.now) (operator_of c.node_at-node.result) (plan_at a.plan.now a.at) (plan_at a.plan.now (a.at + 1))
 eval-only t c =
     let here-here : let a = c.args in a.at < nodes_of a.plan.now = omega (arith, c.if-nodes_of-at.false, c.nodes_of.ensures.0) in
     let here-kinds : c.children_of-children.result ≡ arity (operator_of c.node_at-node.result) = c.children_of-children.ensures ∙ arity_of c.node_at-node.result in
     let a = c.args in single-at (tables_of a.set.now) a.plan.now a.at c.node_at-node.result (here-here) c.node_at-node.ensures (sym (here-kinds) ∙ c.if-children-eq1.true)
 
+-- there are two
 eval-pair : (t : ℕ) (c : eval-Else-children-eq1 t) → arity (operator_of c.node_at-node.result) ≡ 2
 eval-pair t c =
     let here-kinds : c.children_of-children.result ≡ arity (operator_of c.node_at-node.result) = c.children_of-children.ensures ∙ arity_of c.node_at-node.result in
@@ -70,6 +74,7 @@ eval-both t c =
     subst (Double T (operator_of node) (plan_at a.plan.now a.at) (plan_at a.plan.now (a.at + 1))) (sym (second_at a.plan.now a.at c.tree_end-right.result c.tree_end-right.ensures))
     (double-at T a.plan.now a.at node (here-here) c.node_at-node.ensures (here-pair))
 
+-- the second child's part starts behind the first's, within the whole
 eval-behind-at : (t : ℕ) (c : eval-After-tree_part t) → let a = c.args in c.share_at-own.result + c.tree_part.result ≡ c.share_at-own.result + part_at a.set.now a.plan.now (a.at + 1)
 eval-behind-at t c = ap (λ (x : ℕ). c.share_at-own.result + x) c.tree_part.ensures
 
@@ -100,6 +105,7 @@ eval-beyond t c =
     (same_len_mid own (length a.cells.now - own) a.cells.now last c.eval-m.auto.cells, kid_of (child_ready c.requires (here-first) c.share_at-own.ensures.0 (length last) len) c.eval-m.ensures) in
     omega (arith, eval-within t c, (here-back).0)
 
+-- after the second child
 eval-back₂ : (t : ℕ) (c : eval-After-eval-k t) → let a = c.args in let own = c.share_at-own.result in let cells = put_mid own (length a.cells.now - own) a.cells.now c.eval-m.new.cells in let behind = own + c.tree_part.result in let last = c.eval-k.new.cells in (length (put_mid behind (length cells - behind) cells last) ≡ length a.cells.now) × Kid (tables_of a.set.now) (plan_at a.plan.now c.tree_end-right.result) (env_of a.env.now) c.eval-k.result last
 eval-back₂ t c =
     let here-back : let a = c.args in let own = c.share_at-own.result in let last = c.eval-m.new.cells in (length (put_mid own (length a.cells.now - own) a.cells.now last) ≡ length a.cells.now) × Kid (tables_of a.set.now) (plan_at a.plan.now (a.at + 1)) (env_of a.env.now) c.eval-m.result last = let here-first : let a = c.args in First (tables_of a.set.now) (operator_of c.node_at-node.result) (plan_at a.plan.now a.at) (plan_at a.plan.now (a.at + 1)) = let here-here : let a = c.args in a.at < nodes_of a.plan.now = omega (arith, c.if-nodes_of-at.false, c.nodes_of.ensures.0) in
@@ -300,6 +306,7 @@ nested_at-returns t c =
 
 -- ---- nested_loop
 
+-- the row at hand has room for what it gives, and no more rows come than the bound has
 nested_loop-in_row : (t : ℕ) (c : nested_loop-In-loop-i t) → let a = c.args in let l = c.loop-i in let op = operator_of a.node in let k = bound_at a.set.now a.plan.now a.inner in StepRoom op a.ids.now (columns_at a.set.now a.plan.now a.inner) k l.src l.dst a.behind × (l.out + emitted_most op k ≤ 4096)
 nested_loop-in_row t c =
     let a = c.args in
@@ -314,9 +321,11 @@ nested_loop-in_row t c =
       omega (arith, l.invariant.0.few, turns a.m (emitted_most op k) l.i h, s.inner_bound),
     )
 
+-- how wide its rows are
 nested_loop-wide : (t : ℕ) (c : nested_loop-After-emitted_width-wo t) → let a = c.args in c.emitted_width-wo.result ≡ length (emitted_columns (operator_of a.node) a.ids.now (columns_at a.set.now a.plan.now a.inner))
 nested_loop-wide t c = let a = c.args in c.emitted_width-wo.ensures ∙ ap (λ (ds : List ℕ). length (emitted_columns (operator_of a.node) a.ids.now ds)) c.requires.node_value.1
 
+-- the next place is no higher than the row's end
 nested_loop-grows : (t : ℕ) (c : nested_loop-After-row_step-r t) → c.loop-i.dst + c.row_step-r.result * c.emitted_width-wo.result ≤ c.args.behind
 nested_loop-grows t c =
     let here-in_row : let a = c.args in let l = c.loop-i in let op = operator_of a.node in let k = bound_at a.set.now a.plan.now a.inner in StepRoom op a.ids.now (columns_at a.set.now a.plan.now a.inner) k l.src l.dst a.behind × (l.out + emitted_most op k ≤ 4096) = let a = c.args in
@@ -395,6 +404,7 @@ nested_loop-returns t c = building_done c.loop-i.invariant.0 c.loop-i-test.false
 
 -- ---- row_step
 
+-- after the inner plan: the whole has its length, and the rows lie in the part
 row_step-back : (t : ℕ) (c : row_step-After-eval-k t) → let a = c.args in let cells = a.cells.now in let last = c.eval-k.new.cells in (length (put_mid a.behind (length cells - a.behind) cells last) ≡ length cells) × Kid (tables_of a.set.now) (plan_at a.plan.now a.inner) (env_of c.inner_env.new.copy) c.eval-k.result last
 row_step-back t c =
     let a = c.args in

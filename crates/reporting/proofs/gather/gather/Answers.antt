@@ -17,6 +17,7 @@ use Rattle.reporting.proofs.gather.gather.Goals as goal
 use Rattle.reporting.proofs.gather.gather.Goals.{then-row_meets, else-row_meets}
 use Rattle.reporting.proofs.gather.gather.Goals.{In-loop-i}
 
+-- the row at hand lies within the cells
 inside : (c : In-loop-i) → c.loop-i.at + c.args.v ≤ length c.args.cells.now
 inside c =
     let a = c.args in

@@ -14,14 +14,17 @@ use Rattle.reporting.proofs.Known.{before-most, known_kept, known-set}
 use Rattle.reporting.proofs.gather.gather_known.Goals as goal
 use Rattle.reporting.proofs.gather.gather_known.Goals.{After-first_linked-first, Start}
 
+-- the places of the keys lie in the rows
 inside : (c : Start) → (c.args.left < length c.args.cells.now - c.args.src) × (c.args.right < c.args.v)
 inside c = c.requires.equals.0.inside (length c.args.cells.now - c.args.src) c.args.v c.requires.found_inside.0.keys
 
+-- the number of the left row's key
 number : (c : After-first_linked-first) → let a = c.args in c.first_linked-first.result ≡ key_number a.left a.right (rows_from a.behind a.k a.v a.cells.now) (drop a.src a.cells.now)
 number c =
     let a = c.args in
     c.first_linked-first.ensures ∙ ap (λ (x : ℕ). before (λ q. eqb (get_or q a.right 0) x) (rows_from a.behind a.k a.v a.cells.now)) (sym (get_or-drop a.src a.cells.now a.left 0))
 
+-- it lies within what is kept
 within : (c : After-first_linked-first) → (c.first_linked-first.result < length c.args.known.now) × (c.first_linked-first.result ≤ 4096)
 within c =
     let a = c.args in

@@ -18,6 +18,7 @@ use Rattle.reporting.proofs.gather.gather_linked.Goals as goal
 use Rattle.reporting.proofs.gather.gather_linked.Goals.{then-linked_meets, else-linked_meets}
 use Rattle.reporting.proofs.gather.gather_linked.Goals.{In-loop-h, Start, Then-not-is_number}
 
+-- the left key lies within the cells, and is read there
 key-inside : (c : Start) → c.args.src + c.args.left < length c.args.cells.now
 key-inside c =
     let a = c.args in
@@ -26,6 +27,7 @@ key-inside c =
 key-is : (c : Start) → let a = c.args in get_or a.cells.now (a.src + a.left) 0 ≡ get_or (drop a.src a.cells.now) a.left 0
 key-is c = let a = c.args in sym (get_or-drop a.src a.cells.now a.left 0)
 
+-- the row at hand is one of the rows, and lies within the cells
 inside : (c : In-loop-h) → (c.loop-h.h - 1 < c.args.k) × (c.args.behind + (c.loop-h.h - 1) * c.args.v + c.args.v ≤ length c.args.cells.now)
 inside c =
     let a = c.args in
@@ -33,6 +35,7 @@ inside c =
     let i : l.h - 1 < a.k = walk_inside a.k a.next.now l.h l.invariant.0 c.loop-h-test.true in
     (i, omega (arith, turns a.k a.v (l.h - 1) i, c.requires.found_inside.1))
 
+-- a key that is no number meets no row: nothing is added
 unmet : (c : Then-not-is_number) → let a = c.args in Tallying a.found (drop a.src a.cells.now) (rows_from a.behind a.k a.v a.cells.now) [] c.none-tally.result
 unmet c =
     let here-key-is : let a = c.args in get_or a.cells.now (a.src + a.left) 0 ≡ get_or (drop a.src a.cells.now) a.left 0 = let a = c.args in sym (get_or-drop a.src a.cells.now a.left 0) in

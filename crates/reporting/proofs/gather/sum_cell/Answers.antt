@@ -8,6 +8,7 @@ use Rattle.reporting.proofs.Tallies.{sum-in-range}
 use Rattle.reporting.proofs.gather.sum_cell.Goals as goal
 use Rattle.reporting.proofs.gather.sum_cell.Goals.{After-number_word}
 
+-- the cell that is formed is that of the sum, where it is in range
 total-cell : (c : After-number_word) → let a = c.args in
     let cell = (a.high + a.low / 4294967296 + 2147483648 - a.numbers * 2147483648) * 4294967296 + a.low % 4294967296 in
     sum_of a.numbers (a.low + 4294967296 * a.high) ≡ cond c.number_word.result cell off_scale

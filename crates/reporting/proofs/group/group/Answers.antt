@@ -10,6 +10,7 @@ use Rattle.reporting.proofs.Sides.{in_right_lem}
 use Rattle.reporting.proofs.group.group.Goals as goal
 use Rattle.reporting.proofs.group.group.Goals.{Then-key_at}
 
+-- the keys are compared by =, and the right key stands at its place among the columns
 equal : (c : Then-key_at) → Equals 0 c.place_of-place.result c.find-found.result.keys × (c.place_of-place.result < length c.args.ids.now)
 equal c =
     let a = c.args in

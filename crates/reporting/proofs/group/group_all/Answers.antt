@@ -11,6 +11,7 @@ use Rattle.reporting.proofs.group.group_all.Goals as goal
 use Rattle.reporting.proofs.group.group_all.Goals.{then-not-key_given, else-not-key_given}
 use Rattle.reporting.proofs.group.group_all.Goals.{In-loop-i}
 
+-- the row at hand lies within the cells, and the next row given lies before `own`
 in_row : (c : In-loop-i) → (c.loop-i.src + c.args.w ≤ length c.loop-i.cells) × (c.loop-i.out * 2 ≤ length c.loop-i.cells) × (c.loop-i.dst + 2 ≤ c.args.own)
 in_row c =
     let a = c.args in

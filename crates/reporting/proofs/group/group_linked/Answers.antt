@@ -13,6 +13,7 @@ use Rattle.reporting.proofs.group.group_linked.Goals as goal
 use Rattle.reporting.proofs.group.group_linked.Goals.{then-first_linked-i, else-first_linked-i}
 use Rattle.reporting.proofs.group.group_linked.Goals.{In-loop-i}
 
+-- the row at hand lies within the cells, and the next row given lies before `own`
 in_row : (c : In-loop-i) → (c.loop-i.src + c.args.w ≤ length c.loop-i.cells) × (c.args.own + c.args.m * c.args.w ≤ length c.loop-i.cells) × (c.loop-i.dst + 2 ≤ c.args.own)
 in_row c =
     let a = c.args in
@@ -20,6 +21,7 @@ in_row c =
     let p = l.invariant.0 in
     omega (arith, turns a.m a.w l.i c.loop-i-test.true, p.few, p.src_at, p.dst-at, p.long, c.requires.found_inside.2, c.requires.found_inside.3, c.requires.found_inside.4)
 
+-- the index is that of the rows as they are now
 linked : (c : In-loop-i) → Linked c.args.right c.args.m (chunk c.args.m c.args.w (drop c.args.own c.loop-i.cells)) c.args.heads.now c.args.next.now
 linked c = rw c.loop-i.invariant.0.rows c.requires.equals.1
 

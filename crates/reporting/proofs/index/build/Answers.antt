@@ -9,6 +9,7 @@ use Rattle.reporting.proofs.Chains.{heads_length, build_start, build_turn}
 use Rattle.reporting.proofs.index.build.Goals as goal
 use Rattle.reporting.proofs.index.build.Goals.{In-loop-i}
 
+-- the row at hand lies within the rows
 inside : (c : In-loop-i) → (c.loop-i.i - 1) * c.args.w + c.args.w ≤ length c.args.rows.now
 inside c =
     let a = c.args in

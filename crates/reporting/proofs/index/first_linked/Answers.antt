@@ -12,6 +12,7 @@ use Rattle.reporting.proofs.Earliest.{key_at, earliest_start, earliest-here, ear
 use Rattle.reporting.proofs.index.first_linked.Goals as goal
 use Rattle.reporting.proofs.index.first_linked.Goals.{In-loop-h}
 
+-- the row at hand lies within the cells
 inside : (c : In-loop-h) → (c.loop-h.h - 1 < c.args.m) × (c.args.own + (c.loop-h.h - 1) * c.args.w + c.args.w ≤ length c.args.cells.now)
 inside c =
     let a = c.args in

@@ -6,6 +6,7 @@ use Rattle.reporting.proofs.leaf.cells_in.Goals as goal
 use Rattle.reporting.proofs.leaf.cells_in.Goals.{then-n-whole, else-n-whole}
 use Rattle.reporting.proofs.leaf.cells_in.Goals.{Joined-n-whole}
 
+-- what is copied is the smaller of n and what the table has
 few : (c : Joined-n-whole) → (c.if-n-whole.whole ≤ c.args.n) × (c.if-n-whole.whole ≤ length c.args.from.now / 8)
     × ((j : ℕ) → c.if-n-whole.whole ≤ j → j < c.args.n → length c.args.from.now / 8 ≤ j)
 few c =

@@ -12,6 +12,7 @@ use Rattle.reporting.proofs.Emitting.{emitting_start, emitting_done, emitting_ro
 use Rattle.reporting.proofs.matching.known_loop.Goals as goal
 use Rattle.reporting.proofs.matching.known_loop.Goals.{After-known_row-r, In-loop-i}
 
+-- the row at hand has room for what it gives, and no more rows come than the bound has
 in_row : (c : In-loop-i) → let a = c.args in let l = c.loop-i in let op = operator_of a.node in StepRoom op a.ids.now a.jds.now a.k l.src l.dst a.behind × (l.out + emitted_most op a.k ≤ 4096)
 in_row c =
     let a = c.args in
@@ -20,6 +21,7 @@ in_row c =
     let h = c.loop-i-test.true in
     (emitting_room a.node a.found a.ids.now a.jds.now a.own a.m a.behind a.k a.cells.now p.found_somewhere.0 p.found_somewhere.1 p.loop_room.0 l.cells l.i l.out l.src l.dst l.invariant.0 h, emitting_few a.node a.found a.ids.now a.jds.now a.own a.m a.behind a.k a.cells.now p.found_somewhere.0 p.found_somewhere.1 p.loop_room.0 l.cells l.i l.out l.src l.dst l.invariant.0 h p.ids_len_bound.3)
 
+-- it gives no more rows than it may, and the next place is no higher than the row's end
 given : (c : After-known_row-r) → let a = c.args in let l = c.loop-i in let s = c.known_row-r in (s.result ≤ emitted_most (operator_of a.node) a.k) × (l.dst + s.result * c.emitted_width-wo.result ≤ a.behind)
 given c =
     let a = c.args in

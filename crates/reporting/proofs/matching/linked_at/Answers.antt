@@ -12,6 +12,7 @@ use Rattle.reporting.proofs.Lent.{tail_part, tail_length}
 use Rattle.reporting.proofs.matching.linked_at.Goals as goal
 use Rattle.reporting.proofs.matching.linked_at.Goals.{After-build}
 
+-- the right rows are indexed
 linked : (c : After-build) → let a = c.args in Linked a.right a.k (rows_from a.behind a.k (length a.jds.now) a.cells.now) c.build.new.heads c.build.new.next
 linked c =
     let a = c.args in

@@ -4,6 +4,7 @@ use Rattle.reporting.specs.Sides.{PlacesFor, FoundSomewhere}
 use Rattle.reporting.proofs.matching.rows_of_each.Goals as goal
 use Rattle.reporting.proofs.matching.rows_of_each.Goals.{After-find-found}
 
+-- what the loops ask
 asked : (c : After-find-found) → let a = c.args in FoundSomewhere a.node a.ids.now a.jds.now c.find-found.result
 asked c = record { env = env_of c.args.env.now; found = c.find-found.ensures }
 

@@ -10,6 +10,7 @@ use Rattle.reporting.proofs.Picks.{picks_start, picks_turn}
 use Rattle.reporting.proofs.select.cut_row_at.Goals as goal
 use Rattle.reporting.proofs.select.cut_row_at.Goals.{In-loop-j}
 
+-- the place lies in the row
 in_row : (c : In-loop-j) → (c.args.src + get_or c.args.places.now c.loop-j.j 0 < length c.loop-j.cells) × (c.args.dst + c.loop-j.j < c.args.src)
 in_row c = let a = c.args in omega (arith, c.requires.1 c.loop-j.j c.loop-j-test.true, c.loop-j-test.true, c.requires.0, c.loop-j.invariant.1)
 

@@ -8,6 +8,7 @@ use Rattle.reporting.proofs.Building.{map-single, building_start, building_row, 
 use Rattle.reporting.proofs.select.cut_rows.Goals as goal
 use Rattle.reporting.proofs.select.cut_rows.Goals.{In-loop-i}
 
+-- the row at hand lies within the cells, and its cut ends before it begins
 in_row : (c : In-loop-i) → let a = c.args in let l = c.loop-i in (l.src + length a.ids.now ≤ length l.cells) × (l.dst + length a.list.now ≤ l.src)
 in_row c =
     let p = c.loop-i.invariant.0 in

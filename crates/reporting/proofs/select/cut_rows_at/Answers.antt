@@ -11,6 +11,7 @@ use Rattle.reporting.proofs.Picks.{picked-front}
 use Rattle.reporting.proofs.select.cut_rows_at.Goals as goal
 use Rattle.reporting.proofs.select.cut_rows_at.Goals.{In-loop-i}
 
+-- the row at hand lies within the cells, and its cut ends before it begins
 in_row : (c : In-loop-i) → let a = c.args in let l = c.loop-i in (l.src + a.w ≤ length l.cells) × (l.dst + length a.places.now ≤ l.src)
 in_row c =
     let p = c.loop-i.invariant.0 in

@@ -12,6 +12,7 @@ use Rattle.reporting.proofs.Picks.{cuts-picked}
 use Rattle.reporting.proofs.select.project.Goals as goal
 use Rattle.reporting.proofs.select.project.Goals.{Else-found-n}
 
+-- the places are those of all ids
 placed : (c : Else-found-n) → let a = c.args in
     (take (length a.list.now - 0) c.positions_of-found.new.places ≡ positions a.list.now a.ids.now) × (length (positions a.list.now a.ids.now) ≡ length a.list.now)
 placed c =

@@ -15,6 +15,7 @@ use Rattle.reporting.proofs.select.select.Goals as goal
 use Rattle.reporting.proofs.select.select.Goals.{then-condition_holds, else-condition_holds}
 use Rattle.reporting.proofs.select.select.Goals.{In-loop-i}
 
+-- the row at hand lies within the cells, and its place at the front is no higher than it stands
 in_row : (c : In-loop-i) → (c.loop-i.src + length c.args.ids.now ≤ length c.loop-i.cells) × (c.loop-i.dst ≤ c.loop-i.src)
 in_row c = let p = c.loop-i.invariant.0 in omega (arith, building_row p c.loop-i-test.true, kept-below p, c.requires)
 

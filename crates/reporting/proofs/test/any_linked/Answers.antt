@@ -18,6 +18,7 @@ use Rattle.reporting.proofs.Sides.{found_wider}
 use Rattle.reporting.proofs.test.any_linked.Goals as goal
 use Rattle.reporting.proofs.test.any_linked.Goals.{After-linked_meets, In-loop-h, Start}
 
+-- the left key lies within the cells, and is read there
 key-inside : (c : Start) → c.args.src + c.args.left < length c.args.cells.now
 key-inside c =
     let a = c.args in
@@ -26,6 +27,7 @@ key-inside c =
 key-is : (c : Start) → let a = c.args in get_or a.cells.now (a.src + a.left) 0 ≡ get_or (drop a.src a.cells.now) a.left 0
 key-is c = let a = c.args in sym (get_or-drop a.src a.cells.now a.left 0)
 
+-- the row at hand is one of the rows, and lies within the cells
 inside : (c : In-loop-h) → (c.loop-h.h - 1 < c.args.k) × (c.args.behind + (c.loop-h.h - 1) * c.args.v + c.args.v ≤ length c.args.cells.now)
 inside c =
     let a = c.args in
@@ -33,6 +35,7 @@ inside c =
     let i : l.h - 1 < a.k = walk_inside a.k a.next.now l.h l.invariant.0 c.loop-h-test.true in
     (i, omega (arith, turns a.k a.v (l.h - 1) i, c.requires.found_inside.1))
 
+-- what is asked of the rest of the chain, by what was said of the row at hand
 asked : (c : After-linked_meets) (h : ℕ) → let a = c.args in let l = c.loop-h in h ≡ get_or a.next.now (l.h - 1) 0 → any (meets a.found (drop a.src a.cells.now)) (rows_from a.behind a.k a.v a.cells.now) ≡ (c.linked_meets.result || any (meets a.found (drop a.src a.cells.now)) (on_chain a.k (rows_from a.behind a.k a.v a.cells.now) a.next.now h))
 asked c h e =
     let a = c.args in

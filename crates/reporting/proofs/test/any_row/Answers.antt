@@ -14,11 +14,13 @@ use Rattle.reporting.proofs.Meets.{any-first, none_left_lem}
 use Rattle.reporting.proofs.test.any_row.Goals as goal
 use Rattle.reporting.proofs.test.any_row.Goals.{After-row_meets, In-loop-i}
 
+-- the row at hand lies within the cells
 inside : (c : In-loop-i) → c.loop-i.at + c.args.v ≤ length c.args.cells.now
 inside c =
     let a = c.args in
     omega (arith, turns a.k a.v c.loop-i.i c.loop-i-test.true, c.loop-i.invariant.1, c.requires.1)
 
+-- what is asked of the rows that are left, by what was said of the row at hand
 asked : (c : After-row_meets) → let a = c.args in let l = c.loop-i in any (meets a.found (drop a.src a.cells.now)) (rows_from a.behind a.k a.v a.cells.now) ≡ (c.row_meets.result || any (meets a.found (drop a.src a.cells.now)) (rows_from (l.at + a.v) (a.k - (l.i + 1)) a.v a.cells.now))
 asked c =
     let a = c.args in

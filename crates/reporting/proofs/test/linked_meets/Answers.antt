@@ -10,11 +10,13 @@ use Rattle.reporting.proofs.Sides.{meets-other, meets-same}
 use Rattle.reporting.proofs.test.linked_meets.Goals as goal
 use Rattle.reporting.proofs.test.linked_meets.Goals.{Start}
 
+-- the right key lies within the cells
 in_right_lem : (c : Start) → c.args.right < length c.args.cells.now - c.args.at
 in_right_lem c =
     let a = c.args in
     (c.requires.found_inside.1.inside (length a.cells.now - a.src) (length a.cells.now - a.at) c.requires.found_inside.0.keys).1
 
+-- the left key is a number
 number : (c : Start) → is_number (get_or (drop c.args.src c.args.cells.now) c.args.left 0) ≡ true
 number c = subst (λ (key : ℕ). is_number key ≡ true) c.requires.key_value.0 c.requires.key_value.1
 
