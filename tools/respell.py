@@ -3,7 +3,8 @@
 
 Words become snake case ('planOf' is 'plan_of'); types and modules keep their capitals. In a lemma's name a dash stays where it joins two names
 ('filter-length'), and a plain word is added with an underscore ('all_weaken'). A name that the library has too keeps its spelling, and so does
-one that would fall together with another; where a law has the name that a definition gets, the law gets the ending '_lem'. It goes over the .antt, .rt and .edit files below crates/ and the code in README.md and docs/.
+one that would fall together with another; where a law has the name that a definition gets, the law gets the ending '_lem'. It goes over the
+.antt, .rt and .edit files below crates/ and the code in README.md and docs/.
 Names of Rattle source (functions, fields, modules), strings and exported names are not touched: they have no capitals inside and no dashes.
 """
 
@@ -16,7 +17,6 @@ import sys
 # the kit's library: the folder beside the page that `rt doc` names
 LIBRARY = os.path.join(os.path.dirname(subprocess.run(["rt", "doc"], capture_output=True, text=True, check=True).stdout.strip()), "rattle")
 DEFINED = re.compile(r"^\s*(?:abbrev |unfoldable )?(?:pub )?([^\s(){}.;,@\"«»:]+)\s*(?:\{[^}]*\}\s*)*:(?:\s|$)")
-WORD = re.compile(r"[A-Za-z_ℕℤ0-9?'≡≢≤<>+*-]+")
 CAMEL = re.compile(r"^[a-z][a-z0-9']*(?:[A-Z][A-Za-z0-9']*)+(?:-.*)?$")
 IMPORT = re.compile(r"\buse\s+([A-Za-z_.+0-9◌◦'-]+)\.\{([^}]*)\}")
 
@@ -50,12 +50,11 @@ def is_lemma_file(root, path):
 def table(root):
     """The rows of old and new spellings; and the names of laws that a definition takes, so that they get the ending '_lem'."""
     laws = set()
-    own, words, imported, every = collections.Counter(), set(), set(), set()
+    own, words, imported = collections.Counter(), set(), set()
     for path in files(root, (".antt", ".rt")):
         text = read(path)
         code = re.sub(r"(--|//)[^\n]*", "", text)
         tokens = set(re.findall(r"[^\s(){}.;,@\"«»]+", code))
-        every |= tokens
         if path.endswith(".antt"):
             words |= {t for t in tokens if CAMEL.match(t)}
         for m in IMPORT.finditer(code):

@@ -95,7 +95,8 @@ fn write_node(version: Version, plan: &[u8], i: usize, out: &mut [u8], at: usize
 
 // Writes the plan to the front of out: the mark of the version, the count of the nodes, and the nodes.
 pub(crate) fn write_plan(version: Version, plan: &[u8], out: &mut [u8])
-    requires { (6 + node_size (plan_version plan.now) * nodes_of plan.now ≤ length plan.now) × (nodes_fit version plan.now ≡ true) × (6 + node_size version * nodes_of plan.now ≤ length out.old) }
+    requires { (6 + node_size (plan_version plan.now) * nodes_of plan.now ≤ length plan.now) × (nodes_fit version plan.now ≡ true)
+        × (6 + node_size version * nodes_of plan.now ≤ length out.old) }
     ensures { out.new ≡ bytes_written out.old 0 (nodes_in version plan.now) }
 {
     let mark = plan_mark(version);

@@ -32,20 +32,13 @@ part c = c.eval-m.auto.cells ∙ tail_length 4096 c.turned_back-number.new.scrat
 whole : (c : After-eval-m) → let a = c.args in let s = c.turned_back-number.new.scratch in length (put_mid 4096 (length s - 4096) s c.eval-m.new.cells) ≡ length a.scratch.now
 whole c = let s = c.turned_back-number.new.scratch in same_len_mid 4096 (length s - 4096) s c.eval-m.new.cells c.eval-m.auto.cells ∙ c.turned_back-number.auto.scratch
 
-found : (c : After-unary_at-rows) → let a = c.args in EvaluatedAt (tables_of a.set.now) (one (distinct (a.id ∷ [])) (plan_at a.plan.now a.place)) c.unary_at-rows.new.cells (length a.scratch.now) c.unary_at-rows.result 1
-found c =
-    let here-long : let a = c.args in 4096 ≤ length a.scratch.now = let here-accepted : let a = c.args in (input_refusal a.set.now a.plan.now ≡ 0) × (need (tables_of a.set.now) (plan_of a.plan.now) ≤ length a.scratch.now) = let a = c.args in not-turned a.set.now a.plan.now a.scratch.now (sym c.turned_back-number.ensures.value ∙ c.if-number-ne0.false) in
-    let a = c.args in omega (arith, (here-accepted).1, spare (tables_of a.set.now) (plan_of a.plan.now)) in
-    let here-readied : (n : ℕ) → let a = c.args in n ≡ length a.scratch.now - 4096 → Ready (tables_of a.set.now) (plan_at a.plan.now a.place) n 256 = λ n. λ e. let here-accepted : let a = c.args in (input_refusal a.set.now a.plan.now ≡ 0) × (need (tables_of a.set.now) (plan_of a.plan.now) ≤ length a.scratch.now) = let a = c.args in not-turned a.set.now a.plan.now a.scratch.now (sym c.turned_back-number.ensures.value ∙ c.if-number-ne0.false) in
-    let here-long : let a = c.args in 4096 ≤ length a.scratch.now = let here-accepted : let a = c.args in (input_refusal a.set.now a.plan.now ≡ 0) × (need (tables_of a.set.now) (plan_of a.plan.now) ≤ length a.scratch.now) = let a = c.args in not-turned a.set.now a.plan.now a.scratch.now (sym c.turned_back-number.ensures.value ∙ c.if-number-ne0.false) in
-    let a = c.args in omega (arith, (here-accepted).1, spare (tables_of a.set.now) (plan_of a.plan.now)) in
-    let a = c.args in ready_at a.set.now a.plan.now n (here-accepted).0 (omega (arith, (here-accepted).1, here-long)) a.place in
-    let here-part : let a = c.args in length c.eval-m.new.cells ≡ length a.scratch.now - 4096 = c.eval-m.auto.cells ∙ tail_length 4096 c.turned_back-number.new.scratch ∙ ap (λ (k : ℕ). k - 4096) c.turned_back-number.auto.scratch in
+found : (c : After-unary_at-rows) → let a = c.args in 4096 ≤ length a.scratch.now → Ready (tables_of a.set.now) (plan_at a.plan.now a.place) (length c.eval-m.new.cells) 256 → EvaluatedAt (tables_of a.set.now) (one (distinct (a.id ∷ [])) (plan_at a.plan.now a.place)) c.unary_at-rows.new.cells (length a.scratch.now) c.unary_at-rows.result 1
+found c long ready =
     let a = c.args in
     let s = c.turned_back-number.new.scratch in
     let same = c.turned_back-number.auto.scratch in
     let ys = c.eval-m.new.cells in
-    rw (← same) (keys-evaluated (tables_of a.set.now) (plan_at a.plan.now a.place) a.id (operator_of c.distinct_of-node.result) c.distinct_of-node.ensures s ys c.unary_at-rows.new.cells c.eval-m.result c.unary_at-rows.result (length s - 4096) (omega (arith, here-long, same)) (here-readied (length ys) (here-part)) c.eval-m.ensures c.unary_at-rows.ensures)
+    rw (← same) (keys-evaluated (tables_of a.set.now) (plan_at a.plan.now a.place) a.id (operator_of c.distinct_of-node.result) c.distinct_of-node.ensures s ys c.unary_at-rows.new.cells c.eval-m.result c.unary_at-rows.result (length s - 4096) (omega (arith, long, same)) ready c.eval-m.ensures c.unary_at-rows.ensures)
 
 pub returns-then-number-ne0 : goal.returns-then-number-ne0
 returns-then-number-ne0 c =
@@ -73,7 +66,7 @@ unary_at-rows-requires c =
 
 pub given-requires : goal.given-requires
 given-requires c =
-    let e = found (goal.at.given-requires c).After-unary_at-rows in
+    let e = found (goal.at.given-requires c).After-unary_at-rows (long (goal.at.given-requires c).Else-number-ne0) (readied (goal.at.given-requires c).Else-number-ne0 _ (part (goal.at.given-requires c).After-eval-m)) in
     (e.most, omega (arith, e.inside, c.unary_at-rows.auto.cells, whole (goal.at.given-requires c).After-eval-m))
 
 pub shape_of-scratch : goal.shape_of-scratch
@@ -83,4 +76,4 @@ pub returns : goal.returns
 returns c =
     let a = c.args in
     let k = accepted (goal.at.returns c).Else-number-ne0 in
-    rows-done a.set.now a.plan.now a.scratch.now (one (distinct (a.id ∷ [])) (plan_at a.plan.now a.place)) c.given.result _ _ _ _ k.0 k.1 (c.unary_at-rows.auto.cells ∙ whole (goal.at.returns c).After-eval-m) (found (goal.at.returns c).After-unary_at-rows) c.given.ensures.refusal_value c.given.ensures.scratch_after
+    rows-done a.set.now a.plan.now a.scratch.now (one (distinct (a.id ∷ [])) (plan_at a.plan.now a.place)) c.given.result _ _ _ _ k.0 k.1 (c.unary_at-rows.auto.cells ∙ whole (goal.at.returns c).After-eval-m) (found (goal.at.returns c).After-unary_at-rows (long (goal.at.returns c).Else-number-ne0) (readied (goal.at.returns c).Else-number-ne0 _ (part (goal.at.returns c).After-eval-m))) c.given.ensures.refusal_value c.given.ensures.scratch_after

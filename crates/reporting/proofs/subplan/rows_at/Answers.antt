@@ -17,12 +17,10 @@ accepted c = let a = c.args in not-turned a.set.now a.plan.now a.scratch.now (sy
 readied : (c : Else-number-ne0) → let a = c.args in Ready (tables_of a.set.now) (plan_at a.plan.now a.place) (length a.scratch.now) 256
 readied c = let a = c.args in ready_at a.set.now a.plan.now (length a.scratch.now) (accepted c).0 (omega (arith, (accepted c).1)) a.place
 
-found : (c : After-columns_at-columns) → let a = c.args in EvaluatedAt (tables_of a.set.now) (plan_at a.plan.now a.place) c.eval-rows.new.cells (length a.scratch.now) c.eval-rows.result c.columns_at-columns.result
-found c =
-    let here-readied : let a = c.args in Ready (tables_of a.set.now) (plan_at a.plan.now a.place) (length a.scratch.now) 256 = let here-accepted : let a = c.args in (input_refusal a.set.now a.plan.now ≡ 0) × (need (tables_of a.set.now) (plan_of a.plan.now) ≤ length a.scratch.now) = let a = c.args in not-turned a.set.now a.plan.now a.scratch.now (sym c.turned_back-number.ensures.value ∙ c.if-number-ne0.false) in
-    let a = c.args in ready_at a.set.now a.plan.now (length a.scratch.now) (here-accepted).0 (omega (arith, (here-accepted).1)) a.place in
+found : (c : After-columns_at-columns) → let a = c.args in Ready (tables_of a.set.now) (plan_at a.plan.now a.place) (length a.scratch.now) 256 → EvaluatedAt (tables_of a.set.now) (plan_at a.plan.now a.place) c.eval-rows.new.cells (length a.scratch.now) c.eval-rows.result c.columns_at-columns.result
+found c ready =
     let a = c.args in
-    tree-evaluated (tables_of a.set.now) (plan_at a.plan.now a.place) c.eval-rows.new.cells (length a.scratch.now) c.eval-rows.result c.columns_at-columns.result (here-readied) c.eval-rows.ensures c.columns_at-columns.ensures
+    tree-evaluated (tables_of a.set.now) (plan_at a.plan.now a.place) c.eval-rows.new.cells (length a.scratch.now) c.eval-rows.result c.columns_at-columns.result ready c.eval-rows.ensures c.columns_at-columns.ensures
 
 pub returns-then-number-ne0 : goal.returns-then-number-ne0
 returns-then-number-ne0 c =
@@ -34,11 +32,11 @@ eval-rows-requires c = rw c.turned_back-number.auto.scratch (readied (goal.at.ev
 
 pub given-requires : goal.given-requires
 given-requires c =
-    let e = found (goal.at.given-requires c).After-columns_at-columns in
+    let e = found (goal.at.given-requires c).After-columns_at-columns (readied (goal.at.given-requires c).Else-number-ne0) in
     (e.most, omega (arith, e.inside, c.eval-rows.auto.cells, c.turned_back-number.auto.scratch))
 
 pub returns : goal.returns
 returns c =
     let a = c.args in
     let k = accepted (goal.at.returns c).Else-number-ne0 in
-    rows-done a.set.now a.plan.now a.scratch.now (plan_at a.plan.now a.place) c.given.result _ _ _ _ k.0 k.1 (c.eval-rows.auto.cells ∙ c.turned_back-number.auto.scratch) (found (goal.at.returns c).After-columns_at-columns) c.given.ensures.refusal_value c.given.ensures.scratch_after
+    rows-done a.set.now a.plan.now a.scratch.now (plan_at a.plan.now a.place) c.given.result _ _ _ _ k.0 k.1 (c.eval-rows.auto.cells ∙ c.turned_back-number.auto.scratch) (found (goal.at.returns c).After-columns_at-columns (readied (goal.at.returns c).Else-number-ne0)) c.given.ensures.refusal_value c.given.ensures.scratch_after

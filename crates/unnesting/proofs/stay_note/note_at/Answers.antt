@@ -26,11 +26,9 @@ rule c =
     let here-inside : c.args.place < nodes_of c.args.plan.now = omega (arith, c.if-nodes_of-place.false, c.nodes_of.ensures.0) in
     c.compares.ensures ∙ ap comparing (c.rule_of.ensures ∙ (ap (λ (x : Node). operator_rule (operator_of x)) c.node_at-node.ensures ∙ sym (rule-at c.args.plan.now c.args.place (here-inside))))
 
-compared : (c : Else-not-compares) → comparing (rule_of (plan_at c.args.plan.now c.args.place)) ≡ true
-compared c =
-    let here-rule : c.compares.result ≡ comparing (rule_of (plan_at c.args.plan.now c.args.place)) = let here-inside : c.args.place < nodes_of c.args.plan.now = omega (arith, c.if-nodes_of-place.false, c.nodes_of.ensures.0) in
-    c.compares.ensures ∙ ap comparing (c.rule_of.ensures ∙ (ap (λ (x : Node). operator_rule (operator_of x)) c.node_at-node.ensures ∙ sym (rule-at c.args.plan.now c.args.place (here-inside)))) in
-    sym (here-rule) ∙ c.if-not-compares.false
+compared : (c : Else-not-compares)
+    → c.compares.result ≡ comparing (rule_of (plan_at c.args.plan.now c.args.place)) → comparing (rule_of (plan_at c.args.plan.now c.args.place)) ≡ true
+compared c rule = sym rule ∙ c.if-not-compares.false
 
 left : (c : In-Yes) → Left c.args.set.now c.possible_at.new.out (possible (tables_of c.args.set.now) (plan_of c.args.plan.now) c.args.place) c.in-Yes.length c.in-Yes.need
 left c = tells_left _ _ _ _ _ _ c.possible_at.ensures c.in-Yes.is
@@ -49,7 +47,7 @@ possible_at-requires c =
 
 pub sequences_at-requires : goal.sequences_at-requires
 sequences_at-requires c =
-    let a = c.args in record { plan_value = c.requires.plan_value; plan_in_bounds = omega (arith, c.requires.plan_in_bounds.0); i_bound = (inside (goal.at.sequences_at-requires c).Else-nodes_of-place, c.node_at-node.ensures, compared (goal.at.sequences_at-requires c).Else-not-compares); i_nonzero = left-shape a.set.now a.plan.now c.requires.plan_value a.place (inside (goal.at.sequences_at-requires c).Else-nodes_of-place) _ _ _ (left (goal.at.sequences_at-requires c).In-Yes) }
+    let a = c.args in record { plan_value = c.requires.plan_value; plan_in_bounds = omega (arith, c.requires.plan_in_bounds.0); i_bound = (inside (goal.at.sequences_at-requires c).Else-nodes_of-place, c.node_at-node.ensures, compared (goal.at.sequences_at-requires c).Else-not-compares (rule (goal.at.sequences_at-requires c).After-compares)); i_nonzero = left-shape a.set.now a.plan.now c.requires.plan_value a.place (inside (goal.at.sequences_at-requires c).Else-nodes_of-place) _ _ _ (left (goal.at.sequences_at-requires c).In-Yes) }
 
 pub returns-in-No : goal.returns-in-No
 returns-in-No c =
@@ -57,8 +55,8 @@ returns-in-No c =
 
 pub returns-in-Same : goal.returns-in-Same
 returns-in-Same c =
-    note_same c.args.set.now c.args.plan.now c.requires.plan_value c.args.place (inside (goal.at.returns-in-Same c).Else-nodes_of-place) (compared (goal.at.returns-in-Same c).Else-not-compares) _ c.sequences_at.ensures c.in-Same.is
+    note_same c.args.set.now c.args.plan.now c.requires.plan_value c.args.place (inside (goal.at.returns-in-Same c).Else-nodes_of-place) (compared (goal.at.returns-in-Same c).Else-not-compares (rule (goal.at.returns-in-Same c).After-compares)) _ c.sequences_at.ensures c.in-Same.is
 
 pub returns-in-Differ : goal.returns-in-Differ
 returns-in-Differ c =
-    note_differ c.args.set.now c.args.plan.now c.requires.plan_value c.args.place (inside (goal.at.returns-in-Differ c).Else-nodes_of-place) (compared (goal.at.returns-in-Differ c).Else-not-compares) _ _ _ (left (goal.at.returns-in-Differ c).In-Yes) _ _ c.sequences_at.ensures c.in-Differ.is
+    note_differ c.args.set.now c.args.plan.now c.requires.plan_value c.args.place (inside (goal.at.returns-in-Differ c).Else-nodes_of-place) (compared (goal.at.returns-in-Differ c).Else-not-compares (rule (goal.at.returns-in-Differ c).After-compares)) _ _ _ (left (goal.at.returns-in-Differ c).In-Yes) _ _ c.sequences_at.ensures c.in-Differ.is
