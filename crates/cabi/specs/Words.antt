@@ -1,24 +1,26 @@
 -- What a C program gets from each call: one 64-bit word, beside the buffers that it lends. A refused call gives its number alone.
 -- Definitions only (docs/DEFINITION.md, "From C").
-use Rattle.std.specs.Prelude.{ℕ, ◌+◌, ◌*◌, ◌≡◌, List, ℤ}
+use Rattle.std.specs.Prelude.{ℕ, ◌+◌, ◌*◌, ◌≡◌, List, ℤ, Result}
+use Rattle.reading.specs.Refusals.{number_of}
+use Rattle.reading.specs.declared.refusal.Refusal.{Refusal}
 use Rattle.reporting.specs.declared.answer.Report.{Report}
-use Rattle.reporting.specs.Report.{Reported}
+use Rattle.reporting.specs.Report.{answered_rows, answered_columns, Reported}
 use Rattle.unnesting.specs.Unnest.{Unnested}
 use Rattle.unnesting.specs.StayNote.{StayNoted}
 use Rattle.unnesting.specs.CheckSteps.{StepsChecked}
 use Rattle.unnesting.specs.declared.stay_note.StayNote.{StayNote}
 use Rattle.unnesting.specs.declared.stay_note.StayNote.TheVariants.{Refused, None, Position}
 use Rattle.reading.specs.declared.version.Version.{Version}
-use Rattle.conversion.specs.Convert.{ConvertedFrom}
+use Rattle.conversion.specs.Convert.{answered_set, answered_plan, ConvertedFrom}
 use Rattle.conversion.specs.declared.convert.Converted.{Converted}
-use Rattle.prizes.specs.Prize.{Prized}
+use Rattle.prizes.specs.Prize.{answered_payments, answered_line, Prized}
 use Rattle.prizes.specs.declared.answer.Prizes.{Prizes}
 
 -- ---- the words
 
 -- refusal + 2 ^ 8 · columns + 2 ^ 16 · rows
-abbrev pub report_word : Report → ℕ
-report_word r = r.refusal + 256 * r.columns + 65536 * r.rows
+abbrev pub report_word : Result Report Refusal → ℕ
+report_word r = number_of r + 256 * answered_columns r + 65536 * answered_rows r
 
 -- refusal + 2 ^ 8 · steps + 2 ^ 24 · bytes of the plan
 abbrev pub unnest_word : ℕ → ℕ → ℕ → ℕ
@@ -31,17 +33,17 @@ stay_word None = 0
 stay_word (Position position) = 256 + 65536 * position
 
 -- refusal + 2 ^ 8 · bytes of the plan + 2 ^ 24 · bytes of the set
-abbrev pub convert_word : Converted → ℕ
-convert_word r = r.refusal + 256 * r.plan + 16777216 * r.set
+abbrev pub convert_word : Result Converted Refusal → ℕ
+convert_word r = number_of r + 256 * answered_plan r + 16777216 * answered_set r
 
 -- refusal + 2 ^ 8 · rows + 2 ^ 24 · club line
-abbrev pub prize_word : Prizes → ℕ
-prize_word r = r.refusal + 256 * r.rows + 16777216 * r.club
+abbrev pub prize_word : Result Prizes Refusal → ℕ
+prize_word r = number_of r + 256 * answered_payments r + 16777216 * answered_line r
 
 -- ---- the calls: the word holds an answer that is the lower layer's, with its buffers
 
 pub record ReportCalled (set plan : List ℕ) (out out' : List ℤ) (scratch scratch' : List ℕ) (word : ℕ) : Type 0 where
-  pub answer : Report
+  pub answer : Result Report Refusal
   pub reported : Reported set plan out out' scratch scratch' answer
   pub encoded : word ≡ report_word answer
 
@@ -62,11 +64,11 @@ abbrev pub CheckStepsCalled : List ℕ → List ℕ → List ℕ → List ℕ �
 CheckStepsCalled set plan steps theirs scratch scratch' word = StepsChecked set plan steps theirs scratch scratch' word
 
 pub record ConvertCalled (from to : Version) (set plan set_out set_out' plan_out plan_out' : List ℕ) (word : ℕ) : Type 0 where
-  pub answer : Converted
+  pub answer : Result Converted Refusal
   pub converted : ConvertedFrom from to set plan set_out set_out' plan_out plan_out' answer
   pub encoded : word ≡ convert_word answer
 
 pub record PrizeCalled (set plan : List ℕ) (purse : ℕ) (shares : List ℕ) (out out' : List ℤ) (scratch scratch' : List ℕ) (word : ℕ) : Type 0 where
-  pub answer : Prizes
+  pub answer : Result Prizes Refusal
   pub prized : Prized set plan purse shares out out' scratch scratch' answer
   pub encoded : word ≡ prize_word answer

@@ -3,10 +3,12 @@
 
 ghost use Rattle.std.specs.Prelude.{◌≡◌, ◌≤◌};
 ghost use Rattle.reading.specs.declared.version.Version.TheVariants.{First, Second};
+ghost use Rattle.conversion.specs.Convert.{answered_set, answered_plan};
 ghost use Rattle.cabi.specs.Words.{convert_word, ReportCalled, UnnestCalled, StayNoteCalled, CheckStepsCalled, ConvertCalled, PrizeCalled};
 
 use conversion::convert::{Converted, convert_down, convert_up};
 use prizes::prize::prize;
+use reading::refusal::Refusal;
 use reporting::report::report;
 use unnesting::check_steps::check_steps;
 use unnesting::stay_note::{StayNote, stay_note};
@@ -17,11 +19,10 @@ use unnesting::unnest::unnest;
 pub extern "C" fn club_report(set: &[u8], plan: &[u8], out: &mut [i64], scratch: &mut [u64]) -> u64
     ensures { ReportCalled set.now plan.now out.old out.new scratch.old scratch.new result }
 {
-    let answer = report(set, plan, out, scratch);
-    let refusal = answer.refusal as u64;
-    let columns = answer.columns as u64;
-    let rows = answer.rows as u64;
-    refusal + 256 * columns + 65536 * rows
+    match report(set, plan, out, scratch) {
+        Err(refusal) => u8::from(refusal) as u64,
+        Ok(answer) => 256 * (answer.columns as u64) + 65536 * (answer.rows as u64),
+    }
 }
 
 // The unnesting call. C gets refusal + 2^8 * steps + 2^24 * bytes of the plan.
@@ -69,14 +70,14 @@ pub extern "C" fn club_check_steps(
 }
 
 // The word of the converter's answer: refusal + 2^8 * bytes of the plan + 2^24 * bytes of the set.
-fn convert_word(answer: Converted) -> u64
-    requires { (answer.set ≤ 1024064) × (answer.plan ≤ 2054) }
+fn convert_word(answer: Result<Converted, Refusal>) -> u64
+    requires { (answered_set answer ≤ 1024064) × (answered_plan answer ≤ 2054) }
     ensures { result ≡ convert_word answer }
 {
-    let refusal = answer.refusal as u64;
-    let plan = answer.plan as u64;
-    let set = answer.set as u64;
-    refusal + 256 * plan + 16777216 * set
+    match answer {
+        Err(refusal) => u8::from(refusal) as u64,
+        Ok(answer) => 256 * (answer.plan as u64) + 16777216 * (answer.set as u64),
+    }
 }
 
 // The converter, from version 1 to version 2.
@@ -117,8 +118,8 @@ pub extern "C" fn club_prize(
 ) -> u64
     ensures { PrizeCalled set.now plan.now purse shares.now out.old out.new scratch.old scratch.new result }
 {
-    let answer = prize(set, plan, purse, shares, out, scratch);
-    let refusal = answer.refusal as u64;
-    let rows = answer.rows as u64;
-    refusal + 256 * rows + 16777216 * answer.club
+    match prize(set, plan, purse, shares, out, scratch) {
+        Err(refusal) => u8::from(refusal) as u64,
+        Ok(answer) => 256 * (answer.rows as u64) + 16777216 * answer.club,
+    }
 }

@@ -1,4 +1,5 @@
 -- What the converter writes is at most 1,024,064 bytes of a set and 2,054 of a plan. Assumes nothing.
+use Rattle.std.specs.Prelude.{Result}
 use Prim.Native.Nat.{ℕ, zero, suc, ◌+◌, ◌*◌, ◌≤◌, ◌<◌}
 use native.Mathlib.Omega.{arith}
 use native.Mathlib.Nat.{mul-le-mul}
@@ -13,12 +14,13 @@ use Rattle.reading.specs.Versions.{cell_size, node_size}
 use Rattle.reading.specs.TableSet.{columns_of, rows_of, size_allowed, read_set_as, amount_of, table_from}
 use Rattle.reading.specs.Plan.{nodes_of}
 use Rattle.reading.specs.Check.{plan_number, or_next, input_refusal_as}
+use Rattle.reading.specs.declared.refusal.Refusal.{Refusal}
 use Rattle.reading.specs.declared.version.Version.{Version}
 use Rattle.reading.specs.declared.version.Version.TheVariants.{First, Second}
 use Rattle.reading.proofs.Laws.{accepted-table}
 use Rattle.reading.proofs.PlanBytes.{plan_known-as}
 use Rattle.conversion.specs.Bytes.{table_bytes, set_bytes, plan_in}
-use Rattle.conversion.specs.Convert.{converted_set, convert_number, count_after, ConvertedFrom}
+use Rattle.conversion.specs.Convert.{converted_set, convert_number, count_after, answered_set, answered_plan, ConvertedFrom}
 use Rattle.conversion.specs.declared.convert.Converted.{Converted}
 use Rattle.conversion.proofs.Laws.{acceptance}
 use Rattle.conversion.proofs.NodeBytes.{plan_size}
@@ -68,8 +70,8 @@ module _ (from to : Version) (set plan : List ℕ) (a : input_refusal_as from se
       omega (arith, known.most, node_few to (nodes_of plan), plan_size from to plan _ A.plan_read A.whole)
 
 -- What is written is short: so the counts fit into one word.
-pub converted-few : (from to : Version) (set plan set_out set_out' plan_out plan_out' : List ℕ) (r : Converted)
-    → ConvertedFrom from to set plan set_out set_out' plan_out plan_out' r → (r.set ≤ 1024064) × (r.plan ≤ 2054)
+pub converted-few : (from to : Version) (set plan set_out set_out' plan_out plan_out' : List ℕ) (r : Result Converted Refusal)
+    → ConvertedFrom from to set plan set_out set_out' plan_out plan_out' r → (answered_set r ≤ 1024064) × (answered_plan r ≤ 2054)
 unfolding convert_number
 converted-few from to set plan set_out set_out' plan_out plan_out' r e =
     let z : ℕ = convert_number from to set plan (length set_out) (length plan_out) in

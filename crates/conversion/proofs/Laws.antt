@@ -1,5 +1,5 @@
 -- What the converter keeps: the laws of specs/Laws.antt. Assumes nothing.
-use Rattle.std.specs.Prelude.{if◌then◌else◌}
+use Rattle.std.specs.Prelude.{if◌then◌else◌, Ok}
 use Prim.Native.Nat.{ℕ, ◌≤◌}
 use native.Mathlib.Omega.{arith}
 use mathlib.Core.Path.{◌≡◌, refl, sym, ap, ap₂, ◌∙◌}
@@ -23,8 +23,6 @@ use Rattle.reading.specs.Encoding.{operator_within, plan_bytes_as}
 use Rattle.reading.specs.Check.{set_number, plan_number, or_next, plan_refusal_as, input_refusal_as, answer, check_as}
 use Rattle.reading.specs.declared.version.Version.{Version}
 use Rattle.reading.specs.declared.version.Version.TheVariants.{First, Second}
-use Rattle.reading.specs.declared.set.SetRead.TheVariants.{Holds}
-use Rattle.reading.specs.declared.plan.PlanRead.TheVariants.{Nodes}
 use Rattle.reading.proofs.VersionLaws.{reach_in}
 use Rattle.reading.proofs.Decoding.{within-second}
 use Rattle.reading.proofs.Places.{whole-size}
@@ -48,10 +46,10 @@ pub acceptance : (v : Version) (set plan : List ℕ) → input_refusal_as v set 
     → AcceptanceAs v set plan (amount_of (read_set_as v set)) (nodes_of plan) (need (tables_as v set) (plan_of plan))
 unfolding check_as
 acceptance v set plan e =
-    accepted-as v set plan _ _ _ (ap (λ (n : ℕ). answer n (amount_of (read_set_as v set)) (nodes_of plan) (need (tables_as v set) (plan_of plan))) e)
+    accepted-as v set plan _ (ap (λ (n : ℕ). answer n (amount_of (read_set_as v set)) (nodes_of plan) (need (tables_as v set) (plan_of plan))) e)
 
 -- what it takes
-pub accepted-by : (v : Version) (set plan : List ℕ) (m n : ℕ) → read_set_as v set ≡ Holds m → read_plan_as v plan ≡ Nodes n → whole_tree plan ≡ true
+pub accepted-by : (v : Version) (set plan : List ℕ) (m n : ℕ) → read_set_as v set ≡ Ok m → read_plan_as v plan ≡ Ok n → whole_tree plan ≡ true
     → refusal (tables_as v set) (plan_of plan) ≡ 0 → input_refusal_as v set plan ≡ 0
 unfolding input_refusal_as plan_refusal_as
 accepted-by v set plan m n s r w z =
@@ -111,7 +109,7 @@ module _ (from : Version) (set plan : List ℕ) (set_small : AllBytes set) (plan
     set_is : S ≡ contents_bytes to cs
     set_is = ap₂ (set_bytes to) amount held.is ∙ contents-to from cs held.sized held.fits to
 
-    set-read : read_set_as to S ≡ Holds (length cs)
+    set-read : read_set_as to S ≡ Ok (length cs)
     set-read = ap (read_set_as to) set_is ∙ contents-read to cs held.sized cs-fit held.few
 
     tables-same : tables_as to S ≡ tables_as from set
@@ -119,7 +117,7 @@ module _ (from : Version) (set plan : List ℕ) (set_small : AllBytes set) (plan
         ap (tables_as to) set_is ∙ (contents-tables to cs held.sized cs-fit held.few
         ∙ sym (ap (tables_as from) held.is ∙ contents-tables from cs held.sized held.fits held.few))
 
-    plan-is : (read_plan_as to P ≡ Nodes (size (plan_of plan))) × (plan_of P ≡ plan_of plan) × (whole_tree P ≡ true)
+    plan-is : (read_plan_as to P ≡ Ok (size (plan_of plan))) × (plan_of P ≡ plan_of plan) × (whole_tree P ≡ true)
     unfolding plan_fits
     plan-is = bytes_plan_as to (plan_of plan) tree-small tree_fields (fits_both from to set plan fit).1
 

@@ -1,5 +1,5 @@
 -- A node's bytes in both versions: bytes 0 to 19 are the same, and the rest goes by its test. Assumes nothing.
-use Rattle.std.specs.Prelude.{if◌then◌else◌}
+use Rattle.std.specs.Prelude.{if◌then◌else◌, Ok}
 use Prim.Native.Nat.{ℕ, zero, suc, ◌+◌, ◌-◌, ◌*◌, ◌≤◌, ◌<◌}
 use native.Mathlib.Omega.{arith}
 use native.Mathlib.Nat.{le_refl}
@@ -7,7 +7,7 @@ use mathlib.Core.Path.{◌≡◌, refl, sym, ap, ap₂, ◌∙◌}
 use mathlib.Core.Bool.{Bool, true, false, ◌&&◌}
 use mathlib.Core.List.{List, [], ◌∷◌, ◌++◌, append_assoc}
 use lib.Dec.{eqb}
-use lib.ListN.{length, take, drop, replicate, get_or, length-append, length-drop}
+use lib.ListN.{length, take, drop, replicate, length-append, length-drop}
 use lib.Seq.{take_at, drop_at, drop-cons, drop-drop, get_or-drop, take-take, length-take-le}
 use Rattle.algebra.specs.Lists.{all, flat_map, upward}
 use Rattle.algebra.specs.Plans.{always, columns_of, number_of, Test, test, unit, scan, select, project, distinct, group, sort, cross, semi, quant, fold, each, pair}
@@ -15,16 +15,15 @@ use Rattle.algebra.specs.Places.{Operator, leaf_node, unary_node, binary_node}
 use Rattle.algebra.proofs.Lists.{all_map}
 use Rattle.reading.specs.Bytes.{byte_at, unsigned_at, all_below}
 use Rattle.reading.specs.Versions.{cell_size, node_size, test_size, word_of, unsigned_code}
-use Rattle.reading.specs.Plan.{plan_version, test_of, node_of, node_at, plan_mark, nodes_of, read_plan_as}
+use Rattle.reading.specs.Plan.{comparison_from, plan_version, test_of, node_of, node_at, plan_mark, nodes_of, read_plan_as}
 use Rattle.reading.specs.Tree.{operator_at, whole_tree}
-use Rattle.reading.specs.Encoding.{comparison_byte, mark_byte, aggregate_byte, column_byte, low_bytes, test_bytes, no_test, list_bytes, field_bytes, node_bytes_as, plan_bytes_as, test_within, operator_within}
+use Rattle.reading.specs.Encoding.{comparison_byte, mark_byte, aggregate_byte, column_byte, test_bytes, no_test, list_bytes, field_bytes, node_bytes_as, plan_bytes_as, test_within, operator_within}
 use Rattle.reading.specs.Check.{plan_number}
 use Rattle.reading.specs.declared.version.Version.{Version}
 use Rattle.reading.specs.declared.version.Version.TheVariants.{First, Second}
 use Rattle.reading.specs.declared.plan.Test.{Test as Read}
 use Rattle.reading.specs.declared.plan.Test.TheVariants.{Always, Columns, Number}
 use Rattle.reading.specs.declared.plan.Node.{Node}
-use Rattle.reading.specs.declared.plan.PlanRead.TheVariants.{Nodes}
 use Rattle.reading.proofs.VersionLaws.{number-allowed, code-bound, word-code, node_least, node_room}
 use Rattle.reading.proofs.NumberBytes.{low_value}
 use Rattle.reading.proofs.Laws.{all-at}
@@ -34,23 +33,7 @@ use Rattle.conversion.specs.Bytes.{plan_in, plan_fits}
 use Rattle.conversion.specs.Helpers.{bytes_written, test_fits, test_tail, nodes_fit, node_in, nodes_in}
 use Rattle.conversion.proofs.Writing.{written-more, three-written, flat_same, flat_long, flat_next}
 
--- ---- the tail of a test, as 12 bytes of which version 1 has four
-
-pub tail_always : (v : Version) → take (node_size v - 20) (0 ∷ 0 ∷ 0 ∷ 0 ∷ 0 ∷ 0 ∷ 0 ∷ 0 ∷ 0 ∷ 0 ∷ 0 ∷ 0 ∷ []) ≡ test_tail v Always
-tail_always First = refl
-tail_always Second = refl
-
-pub tail_columns : (v : Version) (c l r : ℕ) → take (node_size v - 20) (r ∷ 0 ∷ 0 ∷ 0 ∷ 0 ∷ 0 ∷ 0 ∷ 0 ∷ 0 ∷ 0 ∷ 0 ∷ 0 ∷ []) ≡ test_tail v (Columns c l r)
-tail_columns First c l r = refl
-tail_columns Second c l r = refl
-
-pub tail_number : (v : Version) (c l w : ℕ) (b : List ℕ) → b ≡ low_bytes 8 (unsigned_code v w)
-    → take (node_size v - 20) (get_or b 0 0 ∷ get_or b 1 0 ∷ get_or b 2 0 ∷ get_or b 3 0 ∷ get_or b 4 0 ∷ get_or b 5 0 ∷ get_or b 6 0 ∷ get_or b 7 0 ∷ 0 ∷ 0 ∷ 0 ∷ 0 ∷ []) ≡ test_tail v (Number c l w)
-tail_number v c l w b e = rw e (by v)
-  where
-    by : (v : Version) → take (node_size v - 20) (low_bytes 8 (unsigned_code v w) ++ (0 ∷ 0 ∷ 0 ∷ 0 ∷ [])) ≡ test_tail v (Number c l w)
-    by First = refl
-    by Second = refl
+-- ---- the tail of a test
 
 pub tail_long : (v : Version) (t : Read) → length (test_tail v t) ≡ node_size v - 20
 tail_long First Always = refl
@@ -115,8 +98,8 @@ test_start (test m (number_of c l w)) = 2 ∷ comparison_byte c ∷ mark_byte m 
 -- as it is read
 abbrev read_as : Test → Read
 read_as (test m always) = Always
-read_as (test m (columns_of c l r)) = Columns (comparison_byte c) l r
-read_as (test m (number_of c l w)) = Number (comparison_byte c) l w
+read_as (test m (columns_of c l r)) = Columns (comparison_from (comparison_byte c)) l r
+read_as (test m (number_of c l w)) = Number (comparison_from (comparison_byte c)) l w
 
 start_long : (t : Test) → length (test_start t) ≡ 4
 start_long (test m always) = refl
@@ -137,8 +120,8 @@ test_fits_lem v (test m (number_of c l w)) = refl
 abbrev test_from : Version → List ℕ → Read
 test_from v s =
     if eqb (byte_at s 0) 0 then Always else
-    if eqb (byte_at s 0) 1 then Columns (byte_at s 1) (byte_at s 3) (byte_at s 4) else
-    Number (byte_at s 1) (byte_at s 3) (word_of v (unsigned_at (cell_size v) (drop 4 s) 0))
+    if eqb (byte_at s 0) 1 then Columns (comparison_from (byte_at s 1)) (byte_at s 3) (byte_at s 4) else
+    Number (comparison_from (byte_at s 1)) (byte_at s 3) (word_of v (unsigned_at (cell_size v) (drop 4 s) 0))
 
 from-part : (v : Version) (part : List ℕ) → test_from v (drop 16 part) ≡ test_of v part
 unfolding test_of
@@ -148,7 +131,7 @@ test_read : (v : Version) (t : Test) → test_within v t ≡ true → test_from 
 test_read v (test m always) h = refl
 test_read v (test m (columns_of c l r)) h = refl
 test_read v (test m (number_of c l w)) h =
-    ap (λ (x : ℕ). Number (comparison_byte c) l x)
+    ap (λ (x : ℕ). Number (comparison_from (comparison_byte c)) l x)
     (ap (word_of v) (low_value (cell_size v) (unsigned_code v w) (replicate (test_size v - 4 - cell_size v) 0) (code-bound v w)) ∙ word-code v w (number-allowed v w h))
 
 -- ---- an operator's bytes in one version, from those in the other
@@ -245,7 +228,7 @@ module _ (v : Version) (plan : List ℕ) where
     unfolding nodes_in
     plan_long = omega (arith, nodes-long (nodes_of plan) (le_refl _))
 
-module _ (from to : Version) (plan : List ℕ) (n : ℕ) (r : read_plan_as from plan ≡ Nodes n) (whole : whole_tree plan ≡ true) where
+module _ (from to : Version) (plan : List ℕ) (n : ℕ) (r : read_plan_as from plan ≡ Ok n) (whole : whole_tree plan ≡ true) where
   known : PlanKnownAs from plan
   known = plan_known-as from plan (ap plan_number r)
 

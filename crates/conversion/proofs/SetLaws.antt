@@ -1,6 +1,6 @@
 -- What a set holds, whatever its version: its bytes in a version are read as a set that holds it, and a set that is read is the bytes of what
 -- it holds. So a set is converted by writing what it holds in the other version. Assumes nothing.
-use Rattle.std.specs.Prelude.{if◌then◌else◌}
+use Rattle.std.specs.Prelude.{if◌then◌else◌, Result, Ok, Err}
 use Prim.Native.Nat.{ℕ, zero, suc, ◌+◌, ◌≤◌}
 use native.Mathlib.Omega.{arith}
 use native.Mathlib.Nat.{add-zero}
@@ -16,10 +16,9 @@ use Rattle.algebra.specs.Plans.{Tables}
 use Rattle.algebra.proofs.Lists.{all_map}
 use Rattle.reading.specs.TableSet.{columns_of, cell_bytes, cell_allowed, read_table, read_from, read_set_as, after_table, table_from, table_rows, amount_of, tables_as}
 use Rattle.reading.specs.declared.version.Version.{Version}
-use Rattle.reading.specs.declared.set.SetRead.TheVariants.{Holds, Refused}
-use Rattle.reading.specs.declared.set.TableRead.{TableRead}
-use Rattle.reading.specs.declared.set.TableRead.TheVariants.{Whole, Bad}
-use Rattle.reading.proofs.Laws.{from_end, from-whole}
+use Rattle.reading.specs.declared.refusal.Refusal.{Refusal}
+use Rattle.reading.specs.declared.refusal.Refusal.TheVariants.{SetLong}
+use Rattle.reading.proofs.Laws.{err-ok, ok-is, from_end, from-whole}
 use Rattle.reading.proofs.Places.{flat_map-map}
 use Rattle.reading.proofs.FieldBytes.{Bytes}
 use Rattle.conversion.specs.Bytes.{table_words, table_bytes, set_bytes, set_fits}
@@ -94,8 +93,8 @@ module _ (v : Version) where
 
   -- they are read one after another
   read-from : (left found : ℕ) (cs : List Content) → AllSized cs → all_fitting v cs ≡ true → length cs ≤ left
-      → read_from v left found (contents_bytes v cs) ≡ Holds (found + length cs)
-  read-from left found [] s f l = from_end v left found [] refl ∙ ap Holds (sym (add-zero found))
+      → read_from v left found (contents_bytes v cs) ≡ Ok (found + length cs)
+  read-from left found [] s f l = from_end v left found [] refl ∙ ap Ok (sym (add-zero found))
   read-from zero found (c ∷ cs) s f l = absurd (omega arith)
   read-from (suc left) found (c ∷ cs) s f l =
       let one : fitting v c ≡ true = fits-first c cs f in
@@ -103,7 +102,7 @@ module _ (v : Version) where
       let bytes : List ℕ = content_bytes v c ++ rest in
       from-whole v left found (8 + cell_bytes bytes) bytes (λ e. omega arith) (table-read v c s.0 one rest)
       ∙ (ap (read_from v left (found + 1)) (table-rest v c s.0 one rest)
-      ∙ (read-from left (found + 1) cs s.1 (fits-rest c cs f) (omega arith) ∙ ap Holds (omega arith)))
+      ∙ (read-from left (found + 1) cs s.1 (fits-rest c cs f) (omega arith) ∙ ap Ok (omega arith)))
 
   module _ (cs : List Content) (s : AllSized cs) (f : all_fitting v cs ≡ true) where
     -- the way to another version
@@ -124,9 +123,9 @@ module _ (v : Version) where
 
     module _ (few : length cs ≤ 8) where
       -- it is read, with so many tables
-      pub contents-read : read_set_as v (contents_bytes v cs) ≡ Holds (length cs)
+      pub contents-read : read_set_as v (contents_bytes v cs) ≡ Ok (length cs)
       unfolding read_set_as
-      contents-read = read-from 8 0 cs s f few ∙ ap Holds (omega arith)
+      contents-read = read-from 8 0 cs s f few ∙ ap Ok (omega arith)
 
       -- its tables, in which no version is named
       pub contents-tables : tables_as v (contents_bytes v cs) ≡ content_tables cs
@@ -149,13 +148,6 @@ pub record Contents (v : Version) (left found : ℕ) (s : List ℕ) (m : ℕ) : 
   pub count : found + length contents ≡ m
   pub is : s ≡ contents_bytes v contents
 
--- a refusal is no number of tables
-refused-holds : {C : Type 0} (k m : ℕ) → Refused k ≡ Holds m → C
-refused-holds k m e = let z : ◌≡◌ {A = ℕ} 0 1 = cc in absurd (omega arith)
-
-holds-is : (k m : ℕ) → Holds k ≡ Holds m → k ≡ m
-holds-is k m e = cc
-
 -- nothing is left
 no-contents : (v : Version) (left found : ℕ) (s : List ℕ) (m : ℕ) → length s ≡ 0 → found ≡ m → Contents v left found s m
 no-contents v left found s m z e =
@@ -175,24 +167,24 @@ more-contents v left found s m n h r =
     }
 
 -- table by table
-contents-from : (v : Version) (left found : ℕ) (s : List ℕ) (m : ℕ) → Bytes s → read_from v left found s ≡ Holds m → Contents v left found s m
+contents-from : (v : Version) (left found : ℕ) (s : List ℕ) (m : ℕ) → Bytes s → read_from v left found s ≡ Ok m → Contents v left found s m
 unfolding read_from
 contents-from v zero found s m b e = by (eqb (length s) 0) refl e
   where
-    by : (c : Bool) → eqb (length s) 0 ≡ c → (if c then Holds found else Refused 5) ≡ Holds m → Contents v zero found s m
-    by true z q = no-contents v zero found s m (eqb-true (length s) 0 z) (holds-is found m q)
-    by false z q = refused-holds 5 m q
+    by : (c : Bool) → eqb (length s) 0 ≡ c → (if c then Ok found else Err SetLong) ≡ Ok m → Contents v zero found s m
+    by true z q = no-contents v zero found s m (eqb-true (length s) 0 z) (ok-is found m q)
+    by false z q = err-ok SetLong m q
 contents-from v (suc left) found s m b e =
     by (eqb (length s) 0) refl (read_table v s) refl e (λ n q. contents-from v left (found + 1) (drop n s) m (drop-small n s b) q)
   where
-    by : (c : Bool) → eqb (length s) 0 ≡ c → (r : TableRead) → read_table v s ≡ r
-        → (if c then Holds found else after_table r (λ bytes. read_from v left (found + 1) (drop bytes s))) ≡ Holds m
-        → ((n : ℕ) → read_from v left (found + 1) (drop n s) ≡ Holds m → Contents v left (found + 1) (drop n s) m) → Contents v (suc left) found s m
-    by true z r p q go = no-contents v (suc left) found s m (eqb-true (length s) 0 z) (holds-is found m q)
-    by false z (Bad k) p q go = refused-holds k m q
-    by false z (Whole n) p q go = more-contents v left found s m n (held v s n p b) (go n q)
+    by : (c : Bool) → eqb (length s) 0 ≡ c → (r : Result ℕ Refusal) → read_table v s ≡ r
+        → (if c then Ok found else after_table r (λ bytes. read_from v left (found + 1) (drop bytes s))) ≡ Ok m
+        → ((n : ℕ) → read_from v left (found + 1) (drop n s) ≡ Ok m → Contents v left (found + 1) (drop n s) m) → Contents v (suc left) found s m
+    by true z r p q go = no-contents v (suc left) found s m (eqb-true (length s) 0 z) (ok-is found m q)
+    by false z (Err k) p q go = err-ok k m q
+    by false z (Ok n) p q go = more-contents v left found s m n (held v s n p b) (go n q)
 
 -- A set of bytes that is read as version v is the bytes of what it holds.
-pub contents_of : (v : Version) (s : List ℕ) (m : ℕ) → Bytes s → read_set_as v s ≡ Holds m → Contents v 8 0 s m
+pub contents_of : (v : Version) (s : List ℕ) (m : ℕ) → Bytes s → read_set_as v s ≡ Ok m → Contents v 8 0 s m
 unfolding read_set_as
 contents_of v s m b e = contents-from v 8 0 s m b e

@@ -1,6 +1,6 @@
 -- The bytes of tables and sets in a version, and their sizes. Assumes nothing.
-use Rattle.std.specs.Prelude.{if◌then◌else◌}
-use Prim.Native.Nat.{ℕ, zero, suc, ◌+◌, ◌*◌, ◌%◌, ◌≤◌, ◌<◌}
+use Rattle.std.specs.Prelude.{if◌then◌else◌, Result, Ok, Err}
+use Prim.Native.Nat.{ℕ, zero, suc, ◌+◌, ◌*◌, ◌≤◌, ◌<◌}
 use native.Mathlib.Omega.{arith}
 use mathlib.Core.Path.{◌≡◌, refl, sym, ap, ap₂, ◌∙◌}
 use mathlib.Core.Bool.{Bool, true, false}
@@ -8,42 +8,23 @@ use mathlib.Core.List.{List, [], ◌++◌}
 use lib.Dec.{eqb}
 use lib.ListN.{length, take, drop, length-append, length-drop}
 use lib.Seq.{length-take-le}
-use borrow.Author.Tests.{ne_eqb}
 use Rattle.algebra.specs.Lists.{all, flat_map, upward}
-use Rattle.algebra.specs.Cells.{blank, off_scale, within_reach}
 use Rattle.algebra.proofs.Lists.{all_map}
 use Rattle.reading.specs.Bytes.{all_below}
-use Rattle.reading.specs.Versions.{cell_size, unsigned_code}
+use Rattle.reading.specs.Versions.{cell_size}
 use Rattle.reading.specs.TableSet.{table_mark, table_version, columns_of, rows_of, cells_of, cell_at, cell_allowed, read_table, read_from, read_set_as, after_table, table_from}
-use Rattle.reading.specs.Encoding.{low_bytes, number_bytes}
+use Rattle.reading.specs.Encoding.{number_bytes}
 use Rattle.reading.specs.declared.version.Version.{Version}
 use Rattle.reading.specs.declared.version.Version.TheVariants.{First, Second}
-use Rattle.reading.specs.declared.set.SetRead.TheVariants.{Holds, Refused}
-use Rattle.reading.specs.declared.set.TableRead.{TableRead}
-use Rattle.reading.specs.declared.set.TableRead.TheVariants.{Whole, Bad}
-use Rattle.reading.proofs.VersionLaws.{reach-low}
-use Rattle.reading.proofs.Laws.{accepted-table, all-at}
+use Rattle.reading.specs.declared.refusal.Refusal.{Refusal}
+use Rattle.reading.specs.declared.refusal.Refusal.TheVariants.{SetLong}
+use Rattle.reading.proofs.Laws.{err-ok, ok-is, accepted-table, all-at}
 use Rattle.reading.proofs.Places.{all-upward, flat_map-map}
 use Rattle.conversion.specs.Bytes.{table_words, table_bytes, set_bytes, set_fits}
 use Rattle.conversion.specs.Helpers.{bytes_written, cell_room, Headed}
 use Rattle.conversion.proofs.Writing.{three-written, flat_more, flat_next, flat_long, flat_room, flat_written}
 
--- ---- a number's code
-
--- the low four bytes of a number's word are version 1's code of it
-pub low-code : (w : ℕ) → cell_allowed First w ≡ true → (w ≡ blank → ⊥) → (w ≡ off_scale → ⊥) → w % 4294967296 ≡ unsigned_code First w
-low-code w h n m =
-    let r : within_reach 2000000000 w ≡ true = rw (ne_eqb w blank n, ne_eqb w off_scale m) at h in
-    let l = reach-low 2000000000 w r in
-    rw (ne_eqb w blank n, ne_eqb w off_scale m) (omega arith)
-
--- a code's bytes are the first of its eight
-pub low_part : (v : Version) (x : ℕ) → take (cell_size v) (low_bytes 8 x) ≡ low_bytes (cell_size v) x
-low_part First x = refl
-low_part Second x = refl
-
-pub number-part : (v : Version) (w x m : ℕ) (b : List ℕ) → m ≡ cell_size v → x ≡ unsigned_code v w → b ≡ low_bytes 8 x → take m b ≡ number_bytes v w
-number-part v w x m b e f g = rw (e, g, f) (low_part v (unsigned_code v w))
+-- ---- a number
 
 pub number-long : (v : Version) (w : ℕ) → length (number_bytes v w) ≡ cell_size v
 number-long First w = refl
@@ -134,28 +115,22 @@ module _ (v : Version) (set : List ℕ) where
 
 -- ---- a set that was read
 
-refused-tables : {C : Type 0} (k m : ℕ) → Refused k ≡ Holds m → C
-refused-tables k m e = let z : ◌≡◌ {A = ℕ} 0 1 = cc in absurd (omega arith)
-
-tables-is : (k m : ℕ) → Holds k ≡ Holds m → k ≡ m
-tables-is k m e = cc
-
-few-from : (v : Version) (left found : ℕ) (s : List ℕ) (m : ℕ) → read_from v left found s ≡ Holds m → m ≤ found + left
+few-from : (v : Version) (left found : ℕ) (s : List ℕ) (m : ℕ) → read_from v left found s ≡ Ok m → m ≤ found + left
 unfolding read_from
 few-from v zero found s m e = by (eqb (length s) 0) e
   where
-    by : (b : Bool) → (if b then Holds found else Refused 5) ≡ Holds m → m ≤ found + 0
-    by true q = omega (arith, tables-is found m q)
-    by false q = refused-tables 5 m q
+    by : (b : Bool) → (if b then Ok found else Err SetLong) ≡ Ok m → m ≤ found + 0
+    by true q = omega (arith, ok-is found m q)
+    by false q = err-ok SetLong m q
 few-from v (suc left) found s m e = by (eqb (length s) 0) (read_table v s) e (λ n p. few-from v left (found + 1) (drop n s) m p)
   where
-    by : (b : Bool) (r : TableRead) → (if b then Holds found else after_table r (λ bytes. read_from v left (found + 1) (drop bytes s))) ≡ Holds m
-        → ((n : ℕ) → read_from v left (found + 1) (drop n s) ≡ Holds m → m ≤ found + 1 + left) → m ≤ found + suc left
-    by true r q go = omega (arith, tables-is found m q)
-    by false (Bad k) q go = refused-tables k m q
-    by false (Whole n) q go = omega (arith, go n q)
+    by : (b : Bool) (r : Result ℕ Refusal) → (if b then Ok found else after_table r (λ bytes. read_from v left (found + 1) (drop bytes s))) ≡ Ok m
+        → ((n : ℕ) → read_from v left (found + 1) (drop n s) ≡ Ok m → m ≤ found + 1 + left) → m ≤ found + suc left
+    by true r q go = omega (arith, ok-is found m q)
+    by false (Err k) q go = err-ok k m q
+    by false (Ok n) q go = omega (arith, go n q)
 
-module _ (v : Version) (set : List ℕ) (n : ℕ) (e : read_set_as v set ≡ Holds n) where
+module _ (v : Version) (set : List ℕ) (n : ℕ) (e : read_set_as v set ≡ Ok n) where
   -- a set has at most 8 tables
   pub tables-few : n ≤ 8
   unfolding read_set_as

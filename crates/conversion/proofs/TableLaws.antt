@@ -1,6 +1,6 @@
 -- What a table holds, whatever its version: its bytes in a version are read as a table that holds it, and a table that is read is the bytes of
 -- what it holds. Assumes nothing.
-use Rattle.std.specs.Prelude.{if◌then◌else◌}
+use Rattle.std.specs.Prelude.{if◌then◌else◌, Ok, Err}
 use Prim.Native.Nat.{ℕ, zero, suc, ◌+◌, ◌*◌, ◌/◌, ◌≤◌, ◌<◌}
 use native.Mathlib.Omega.{arith}
 use native.Mathlib.Nat.{add-zero, mul-zero, mul-suc}
@@ -22,7 +22,7 @@ use Rattle.reading.specs.TableSet.{table_mark, table_version, columns_of, rows_o
 use Rattle.reading.specs.Encoding.{low_bytes, number_bytes}
 use Rattle.reading.specs.declared.version.Version.{Version}
 use Rattle.reading.specs.declared.version.Version.TheVariants.{First, Second}
-use Rattle.reading.specs.declared.set.TableRead.TheVariants.{Whole, Bad}
+use Rattle.reading.specs.declared.refusal.Refusal.TheVariants.{TableMark}
 use Rattle.reading.proofs.VersionLaws.{code-bound, code-word, word-code, starts_take, marked-version, node_room}
 use Rattle.reading.proofs.NumberBytes.{unsigned_drop, unsigned_bound, low_value, value_low}
 use Rattle.reading.proofs.Laws.{all-holds, read-mark, read_whole, WholeTable, whole-table}
@@ -218,7 +218,7 @@ module _ (v : Version) (c : Content) (sized : Sized c) (fits : fitting v c ≡ t
   table-rest = sym (drop-drop (cell_bytes bytes) 8 bytes) ∙ drop_at (flat_map (number_bytes v) c.words) rest (cell_bytes bytes) (sym bytes_of)
 
   -- it is read whole
-  pub table-read : read_table v bytes ≡ Whole (8 + cell_bytes bytes)
+  pub table-read : read_table v bytes ≡ Ok (8 + cell_bytes bytes)
   table-read =
       let room : 8 + cell_bytes bytes ≤ length bytes = omega (arith, bytes_of, length-append (flat_map (number_bytes v) c.words) rest) in
       read_whole v bytes (omega arith) (starts_mark v _) sized.size room (rw cells-of (cells-allowed v c.words fits))
@@ -232,7 +232,7 @@ pub record Held (v : Version) (t : List ℕ) (n : ℕ) : Type 0 where
   pub fits : fitting v content ≡ true
   pub is : t ≡ content_bytes v content ++ drop n t
 
-module _ (v : Version) (t : List ℕ) (n : ℕ) (e : read_table v t ≡ Whole n) (small : Bytes t) where
+module _ (v : Version) (t : List ℕ) (n : ℕ) (e : read_table v t ≡ Ok n) (small : Bytes t) where
   whole : WholeTable v t n
   whole = whole-table v t n e
 
@@ -243,7 +243,7 @@ module _ (v : Version) (t : List ℕ) (n : ℕ) (e : read_table v t ≡ Whole n)
       by : (b : Bool) → starts_with (table_mark v) t ≡ b → b ≡ true
       by true q = refl
       by false q =
-          let bad : read_table v t ≡ Bad 2 = read-mark v t (omega (arith, whole.fits)) q in
+          let bad : read_table v t ≡ Err TableMark = read-mark v t (omega (arith, whole.fits)) q in
           let zero_one : ◌≡◌ {A = ℕ} 0 1 = cc in
           absurd (omega arith)
 

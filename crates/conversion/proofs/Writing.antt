@@ -5,38 +5,16 @@ use native.Mathlib.Nat.{mul-suc}
 use native.Mathlib.Numerals.{add-one}
 use mathlib.Core.Path.{◌≡◌, refl, sym, ap, ap₂, ◌∙◌}
 use mathlib.Core.List.{List, [], ◌∷◌, ◌++◌, append_assoc, append-nil}
-use lib.ListN.{length, take, drop, get_or, set, length-append, take-append-drop}
-use lib.Seq.{take-suc, drop-cons, drop-drop, set_at, take_at, drop_at, length-take-le, take_all}
+use lib.ListN.{length, take, drop, length-append, take-append-drop}
+use lib.Seq.{drop-drop, take_at, drop_at, length-take-le}
 use Rattle.algebra.specs.Lists.{flat_map, upward}
 use Rattle.reading.proofs.Places.{upward_append, upward-more, flat_map-joined}
 use Rattle.conversion.specs.Helpers.{bytes_written}
 
--- ---- bytes, one by one
-
--- k of the bytes are written
-abbrev pub part_written : List ℕ → ℕ → List ℕ → ℕ → List ℕ
-part_written out at bytes k = take at out ++ (take k bytes ++ drop (at + k) out)
+-- ---- no bytes, and one run of bytes behind another
 
 pub written_none : (out : List ℕ) (at : ℕ) → out ≡ bytes_written out at []
 written_none out at = let z : at + 0 ≡ at = omega arith in rw z (sym (take-append-drop at out))
-
-module _ (out : List ℕ) (at : ℕ) (bytes : List ℕ) (fits : at + length bytes ≤ length out) where
-  pub written_next : (k : ℕ) → k < length bytes → set (part_written out at bytes k) (at + k) (get_or bytes k 0) ≡ part_written out at bytes (k + 1)
-  written_next k h =
-      let p = take at out ++ take k bytes in
-      let y = get_or out (at + k) 0 in
-      let ys = drop (suc (at + k)) out in
-      let v = get_or bytes k 0 in
-      let d : at + k < length out = omega arith in
-      let q : at + suc k ≡ suc (at + k) = omega arith in
-      let long : length p ≡ at + k = length-append (take at out) (take k bytes) ∙ ap₂ ◌+◌ (length-take-le at out (omega arith)) (length-take-le k bytes (omega arith)) in
-      ap (λ (s : List ℕ). set s (at + k) v) (ap (λ (s : List ℕ). take at out ++ (take k bytes ++ s)) (drop-cons out (at + k) 0 d) ∙ sym (append_assoc (take at out) (take k bytes) (y ∷ ys)))
-      ∙ (set_at p y ys v (at + k) long ∙ rw (add-one k, take-suc bytes k 0 h, q) (simp append_assoc))
-
-  pub written_all : (k : ℕ) → k ≡ length bytes → part_written out at bytes k ≡ bytes_written out at bytes
-  written_all k e = rw (e, take_all (length bytes) bytes (omega arith))
-
--- ---- one run of bytes behind another
 
 module _ (out : List ℕ) (at : ℕ) (xs ys : List ℕ) (fits : at + length xs ≤ length out) where
   pub written-more : (n : ℕ) → n ≡ at + length xs → bytes_written (bytes_written out at xs) n ys ≡ bytes_written out at (xs ++ ys)

@@ -1,7 +1,9 @@
 -- The answer of the converter's two calls (docs/DEFINITION.md, "The converter"). A set and a plan are lists of bytes. Definitions only.
-use Rattle.std.specs.Prelude.{ℕ, zero, suc, ◌&&◌, ◌||◌, ◌≡◌, List, ◌++◌, ltb, length, drop, if◌then◌else◌}
+use Rattle.std.specs.Prelude.{ℕ, zero, suc, ◌&&◌, ◌||◌, ◌≡◌, List, ◌++◌, ltb, length, drop, if◌then◌else◌, Result, Ok, Err}
 use Rattle.reading.specs.TableSet.{read_set_as, amount_of}
+use Rattle.reading.specs.Refusals.{number_of}
 use Rattle.reading.specs.Check.{or_next, input_refusal_as}
+use Rattle.reading.specs.declared.refusal.Refusal.{Refusal}
 use Rattle.reading.specs.declared.version.Version.{Version}
 use Rattle.conversion.specs.Bytes.{set_bytes, set_fits, plan_in, plan_fits}
 use Rattle.conversion.specs.declared.convert.Converted.{Converted}
@@ -37,10 +39,20 @@ abbrev pub bytes_after : ℕ → List ℕ → List ℕ → List ℕ
 bytes_after zero bytes out = bytes ++ drop (length bytes) out
 bytes_after (suc number) bytes out = out
 
+-- ---- what is returned: the bytes written to each output, or a refusal, which has zero counts
+
+abbrev pub answered_set : Result Converted Refusal → ℕ
+answered_set (Ok converted) = converted.set
+answered_set (Err refusal) = 0
+
+abbrev pub answered_plan : Result Converted Refusal → ℕ
+answered_plan (Ok converted) = converted.plan
+answered_plan (Err refusal) = 0
+
 -- ---- the whole answer: r is returned, and the two outputs become set_out' and plan_out'
-pub record ConvertedFrom (from to : Version) (set plan set_out set_out' plan_out plan_out' : List ℕ) (r : Converted) : Type 0 where
-  pub number : r.refusal ≡ convert_number from to set plan (length set_out) (length plan_out)
-  pub set_count : r.set ≡ count_after (convert_number from to set plan (length set_out) (length plan_out)) (length (converted_set from to set))
-  pub plan_count : r.plan ≡ count_after (convert_number from to set plan (length set_out) (length plan_out)) (length (plan_in to plan))
+pub record ConvertedFrom (from to : Version) (set plan set_out set_out' plan_out plan_out' : List ℕ) (r : Result Converted Refusal) : Type 0 where
+  pub number : number_of r ≡ convert_number from to set plan (length set_out) (length plan_out)
+  pub set_count : answered_set r ≡ count_after (convert_number from to set plan (length set_out) (length plan_out)) (length (converted_set from to set))
+  pub plan_count : answered_plan r ≡ count_after (convert_number from to set plan (length set_out) (length plan_out)) (length (plan_in to plan))
   pub set_output : set_out' ≡ bytes_after (convert_number from to set plan (length set_out) (length plan_out)) (converted_set from to set) set_out
   pub plan_output : plan_out' ≡ bytes_after (convert_number from to set plan (length set_out) (length plan_out)) (plan_in to plan) plan_out

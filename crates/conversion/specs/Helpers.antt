@@ -1,5 +1,5 @@
 -- What the contracts of the converter's own functions speak of. Definitions only.
-use Rattle.std.specs.Prelude.{ℕ, ◌+◌, ◌*◌, ◌-◌, ◌≤◌, ◌<◌, Bool, true, ◌≡◌, List, ◌∷◌, ◌++◌, length, take, drop, replicate}
+use Rattle.std.specs.Prelude.{ℕ, ◌+◌, ◌*◌, ◌-◌, ◌≤◌, ◌<◌, Bool, true, ◌≡◌, List, ◌∷◌, ◌++◌, length, take, drop, replicate, Ok}
 use Rattle.algebra.specs.Lists.{flat_map, upward}
 use Rattle.algebra.specs.Cells.{within_reach}
 use Rattle.reading.specs.Bytes.{all_below}
@@ -10,16 +10,14 @@ use Rattle.reading.specs.Tree.{whole_tree}
 use Rattle.reading.specs.Check.{input_refusal_as}
 use Rattle.reading.specs.Encoding.{number_bytes}
 use Rattle.reading.specs.declared.version.Version.{Version}
-use Rattle.reading.specs.declared.set.SetRead.TheVariants.{Holds}
-use Rattle.reading.specs.declared.plan.PlanRead.TheVariants.{Nodes}
 use Rattle.reading.specs.declared.plan.Test.{Test}
 use Rattle.reading.specs.declared.plan.Test.TheVariants.{Always, Columns, Number}
 
 -- a set and a plan that 1 to 14 of version v do not turn back, and what was read of them
 pub record AcceptedAs (v : Version) (set plan : List ℕ) (tables : ℕ) : Type 0 where
   pub accepted : input_refusal_as v set plan ≡ 0
-  pub set_read : read_set_as v set ≡ Holds tables
-  pub plan_read : read_plan_as v plan ≡ Nodes (nodes_of plan)
+  pub set_read : read_set_as v set ≡ Ok tables
+  pub plan_read : read_plan_as v plan ≡ Ok (nodes_of plan)
   pub whole : whole_tree plan ≡ true
 
 -- out with the bytes from a place on

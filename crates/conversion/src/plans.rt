@@ -4,7 +4,7 @@ ghost use Rattle.reading.specs.Versions.{node_size};
 ghost use Rattle.reading.specs.Plan.{plan_version, node_at, nodes_of};
 ghost use Rattle.conversion.specs.Helpers.{bytes_written, node_end, test_fits, test_tail, nodes_fit, node_in, nodes_in};
 
-use crate::numbers::{code_of, low_bytes, write_bytes};
+use crate::numbers::{code_of, write_bytes};
 use reading::plan::{Test, node_at, plan_mark};
 use reading::set::number_as;
 use reading::tree::nodes_of;
@@ -17,17 +17,8 @@ fn test_fits(version: Version, test: Test) -> bool
     ensures { result ≡ test_fits version test }
 {
     match test {
-        Test::Always => true,
-        Test::Columns {
-            comparison: _,
-            left: _,
-            right: _,
-        } => true,
-        Test::Number {
-            comparison: _,
-            left: _,
-            number,
-        } => number_as(version, number),
+        Test::Always | Test::Columns { .. } => true,
+        Test::Number { number, .. } => number_as(version, number),
     }
 }
 
@@ -35,14 +26,10 @@ fn test_fits(version: Version, test: Test) -> bool
 pub(crate) fn plan_fits(version: Version, plan: &[u8]) -> bool
     ensures { result ≡ nodes_fit version plan.now }
 {
-    let n = nodes_of(plan);
-    let mut i = 0;
-    while i < n {
-        let test = node_at(plan, i).test;
-        if !test_fits(version, test) {
+    for i in 0..nodes_of(plan) {
+        if !test_fits(version, node_at(plan, i).test) {
             return false;
         }
-        i += 1;
     }
     true
 }
@@ -61,22 +48,15 @@ fn test_tail(version: Version, test: Test) -> [u8; 12]
     requires { test_fits version test ≡ true }
     ensures { take (node_size version - 20) result ≡ test_tail version test }
 {
+    let mut tail = [0; 12];
     match test {
-        Test::Always => [0, 0, 0, 0, 0, 0, 0, 0, 0, 0, 0, 0],
-        Test::Columns {
-            comparison: _,
-            left: _,
-            right,
-        } => [right, 0, 0, 0, 0, 0, 0, 0, 0, 0, 0, 0],
-        Test::Number {
-            comparison: _,
-            left: _,
-            number,
-        } => {
-            let b = low_bytes(code_of(version, number));
-            [b[0], b[1], b[2], b[3], b[4], b[5], b[6], b[7], 0, 0, 0, 0]
+        Test::Always => {}
+        Test::Columns { right, .. } => tail[0] = right,
+        Test::Number { number, .. } => {
+            tail[..8].copy_from_slice(&code_of(version, number).to_le_bytes())
         }
     }
+    tail
 }
 
 // Writes node i from a place on: its bytes 0 to 19 as they are, and the rest by its test.
@@ -102,13 +82,10 @@ pub(crate) fn write_plan(version: Version, plan: &[u8], out: &mut [u8])
     let mark = plan_mark(version);
     write_bytes(out, 0, &mark);
     write_bytes(out, 5, &plan[5..6]);
-    let n = nodes_of(plan);
     let size = node_size(version);
     let mut at = 6;
-    let mut i = 0;
-    while i < n {
+    for i in 0..nodes_of(plan) {
         write_node(version, plan, i, out, at);
         at += size;
-        i += 1;
     }
 }

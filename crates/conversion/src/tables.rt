@@ -18,13 +18,10 @@ fn table_fits(version: Version, table: &[u8]) -> bool
 {
     let from = version_at(table);
     let cells = table_cells(table, 0);
-    let n = columns_of(table) * rows_of(table);
-    let mut i = 0;
-    while i < n {
+    for i in 0..columns_of(table) * rows_of(table) {
         if !cell_allowed(version, cell(from, cells, i)) {
             return false;
         }
-        i += 1;
     }
     true
 }
@@ -33,12 +30,10 @@ fn table_fits(version: Version, table: &[u8]) -> bool
 pub(crate) fn set_fits(version: Version, set: &[u8], tables: usize) -> bool
     ensures { result ≡ set_fits version tables set.now }
 {
-    let mut t = 0;
-    while t < tables {
+    for t in 0..tables {
         if !table_fits(version, table_from(set, t)) {
             return false;
         }
-        t += 1;
     }
     true
 }
@@ -60,10 +55,8 @@ pub(crate) fn set_size(version: Version, set: &[u8], tables: usize) -> usize
     ensures { result ≡ length (set_bytes version tables set.now) }
 {
     let mut size = 0;
-    let mut t = 0;
-    while t < tables {
+    for t in 0..tables {
         size += table_size(version, table_from(set, t));
-        t += 1;
     }
     size
 }
@@ -75,14 +68,11 @@ fn write_cells(version: Version, table: &[u8], out: &mut [u8], at: usize)
 {
     let from = version_at(table);
     let cells = table_cells(table, 0);
-    let n = columns_of(table) * rows_of(table);
     let size = cell_size(version);
     let mut place = at;
-    let mut i = 0;
-    while i < n {
+    for i in 0..columns_of(table) * rows_of(table) {
         write_number(version, out, place, cell(from, cells, i));
         place += size;
-        i += 1;
     }
 }
 
@@ -103,11 +93,9 @@ pub(crate) fn write_set(version: Version, set: &[u8], tables: usize, out: &mut [
     ensures { out.new ≡ bytes_written out.old 0 (set_bytes version tables set.now) }
 {
     let mut at = 0;
-    let mut t = 0;
-    while t < tables {
+    for t in 0..tables {
         let table = table_from(set, t);
         write_table(version, table, out, at);
         at += table_size(version, table);
-        t += 1;
     }
 }

@@ -7,17 +7,29 @@ mod write;
 
 use conversion::convert::{Converted, convert_down, convert_up};
 use files::{read_file, set_bytes};
-use reading::bytes::{head, starts_with};
+use reading::bytes::head;
+use reading::refusal::Refusal;
 use std::alloc::Global;
 use std::env::Env;
 use std::rt::Files;
 use write::write_both;
 
-// Whether the program's argument is this word.
-fn told(rt: &impl Env, word: &[u8]) -> bool {
+// Which way to convert.
+#[derive(Clone, Copy)]
+enum Direction {
+    Up,
+    Down,
+}
+
+// The way that the program's argument tells, if it tells one.
+fn told(rt: &impl Env) -> Option<Direction> {
     let mut argument = [0u8; 4096];
     let n = rt.arg(1, &mut argument).unwrap_or(0);
-    n == word.len() && starts_with(head(&argument, n), word)
+    match argument.get(..n)? {
+        b"up" => Some(Direction::Up),
+        b"down" => Some(Direction::Down),
+        _ => None,
+    }
 }
 
 // Prints how many bytes a file has.
@@ -29,18 +41,20 @@ fn show_bytes(rt: &impl Print, name: &str, bytes: usize) {
 fn keep(
     rt: &(impl Files + Print + Eprint),
     alloc: Global,
-    answer: Converted,
+    answer: Result<Converted, Refusal>,
     set: &[u8],
     plan: &[u8],
 ) {
-    let refusal = answer.refusal;
-    if refusal != 0 {
-        let _ = println!(rt; "refused {refusal}");
-        return;
-    }
-    if write_both(rt, alloc, head(set, answer.set), head(plan, answer.plan)) {
-        show_bytes(rt, "set", answer.set);
-        show_bytes(rt, "plan", answer.plan);
+    match answer {
+        Err(refusal) => {
+            let _ = println!(rt; "refused {}", u8::from(refusal));
+        }
+        Ok(written) => {
+            if write_both(rt, alloc, head(set, written.set), head(plan, written.plan)) {
+                show_bytes(rt, "set", written.set);
+                show_bytes(rt, "plan", written.plan);
+            }
+        }
     }
 }
 
@@ -48,27 +62,25 @@ fn keep(
 fn convert(
     rt: &(impl Files + Print + Eprint),
     alloc: Global,
-    up: bool,
+    direction: Direction,
     set: &[u8],
     plan: &[u8],
     out_set: &mut [u8],
     out_plan: &mut [u8],
 ) {
-    let answer = if up {
-        convert_up(set, plan, out_set, out_plan)
-    } else {
-        convert_down(set, plan, out_set, out_plan)
+    let answer = match direction {
+        Direction::Up => convert_up(set, plan, out_set, out_plan),
+        Direction::Down => convert_down(set, plan, out_set, out_plan),
     };
     keep(rt, alloc, answer, out_set, out_plan);
 }
 
 // The plan's buffer has one byte more than the longest plan, so that a longer file is turned back as the whole of it would be.
 fn main(rt: HostRuntime) {
-    let up = told(&rt, b"up");
-    if !up && !told(&rt, b"down") {
+    let Some(direction) = told(&rt) else {
         let _ = println!(rt; "convert up|down");
         return;
-    }
+    };
     let mut set = set_bytes();
     let mut plan = [0u8; 2055];
     let set_length = read_file(&rt, b"club.tbl", &mut set);
@@ -78,7 +90,7 @@ fn main(rt: HostRuntime) {
     convert(
         &rt,
         rt.alloc(),
-        up,
+        direction,
         head(&set, set_length),
         head(&plan, plan_length),
         &mut out_set,

@@ -1,9 +1,12 @@
-// What the programs share: reading a file of the working folder, or any other input, into a buffer, and the buffer for a set.
+// What the programs share: reading a file of the working folder, or any other input, into a buffer, the programs' large buffers, and the cases
+// that the case programs read (`cases`).
 #![tactic(auto)]
 
 ghost use Rattle.files.specs.Counts.{IsPrefixLen};
 ghost use Rattle.std.specs.Io.KnownBytes.{Consumes};
 ghost use Rattle.std.specs.Prelude.{◌≡◌, length, take};
+
+pub mod cases;
 
 use std::fs::File;
 use std::io::Read;
@@ -24,7 +27,8 @@ pub fn read_file(rt: &impl Files, name: &[u8], buffer: &mut [u8]) -> usize
     }
 }
 
-// Reads until the buffer is full, the input ends or a read fails, and says how many bytes stand at the buffer's front.
+// Reads until the buffer is full, the input ends or a read fails, and says how many bytes stand at the buffer's front. std's `read_exact` gives
+// no count where the input ends, and its `read_to_end` wants a buffer that grows.
 pub fn read_full<R: Read>(reader: &mut R, buffer: &mut [u8]) -> usize
     ensures in_bounds { IsPrefixLen result buffer.new }
     ensures bytes { Consumes (R.remaining reader.old) (R.remaining reader.new) (take result buffer.new) }
@@ -39,11 +43,17 @@ pub fn read_full<R: Read>(reader: &mut R, buffer: &mut [u8]) -> usize
     done
 }
 
+// A large buffer of zeros. The contract gives only the length, which lending the buffer as a slice needs.
+pub fn zeros<T: Copy + Default, const N: usize>() -> [T; N]
+    ensures { N ≡ length result }
+{
+    [T::default(); N]
+}
+
 // One byte more than the longest set of eight tables. Of a longer file only these bytes are read, and the answer is that for the whole:
-// tables are met from the front, and any byte after eight of them is refused. The contract gives only the length, which lending the buffer
-// as a slice needs.
+// tables are met from the front, and any byte after eight of them is refused.
 pub fn set_bytes() -> [u8; 1024065]
     ensures { 1024065 ≡ length result }
 {
-    [0; 1024065]
+    zeros()
 }

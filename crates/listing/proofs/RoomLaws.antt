@@ -1,7 +1,7 @@
 -- What an answer says is written lies inside its buffer. Assumes nothing.
-use Rattle.std.specs.Prelude.{if◌then◌else◌}
+use Rattle.std.specs.Prelude.{if◌then◌else◌, Result, Ok}
 use Prim.Native.Nat.{ℕ, zero, suc, ◌*◌, ◌≤◌}
-use mathlib.Core.Path.{◌≡◌, refl, sym, ap, ◌∙◌}
+use mathlib.Core.Path.{◌≡◌, refl, sym, ap, subst, ◌∙◌}
 use mathlib.Core.Bool.{Bool, true, false, ◌||◌, true≢false}
 use mathlib.Core.List.{List}
 use native.Mathlib.Omega.{arith}
@@ -10,6 +10,7 @@ use lib.Dec.{ltb}
 use lib.IntN.{ℤ}
 use lib.ListN.{length}
 use Rattle.reading.specs.Check.{or_next, input_refusal}
+use Rattle.reading.specs.declared.refusal.Refusal.{Refusal}
 use Rattle.reporting.specs.declared.answer.Report.{Report}
 use Rattle.reporting.specs.Report.{row_count, column_count, count_after, scratch_number, output_number, report_number, Reported}
 use Rattle.unnesting.specs.Unnest.{unnest_steps, written_steps, written_plan, unnest_scratch, unnest_output, unnest_number, Unnested}
@@ -32,9 +33,10 @@ enough set plan room scratch_room e =
     ltb-false room (row_count set plan * column_count set plan) (test_fails (ltb room (row_count set plan * column_count set plan)) 14 o)
 
 -- the codes of a report
-pub report-room : {set plan : List ℕ} {out out' : List ℤ} {scratch scratch' : List ℕ} {r : Report} → Reported set plan out out' scratch scratch' r → r.refusal ≡ 0 → r.rows * r.columns ≤ length out
-report-room {set} {plan} {out} {out'} {scratch} {scratch'} {r} a e =
-    let n : report_number set plan (length out) (length scratch) ≡ 0 = sym a.number ∙ e in
+pub report-room : {set plan : List ℕ} {out out' : List ℤ} {scratch scratch' : List ℕ} {q : Result Report Refusal} {r : Report} → Reported set plan out out' scratch scratch' q → q ≡ Ok r → r.rows * r.columns ≤ length out
+report-room {set} {plan} {out} {out'} {scratch} {scratch'} {q} {r} given e =
+    let a = subst (Reported set plan out out' scratch scratch') e given in
+    let n : report_number set plan (length out) (length scratch) ≡ 0 = sym a.number in
     let i : r.rows ≡ row_count set plan = a.rows ∙ ap (λ (k : ℕ). count_after k (row_count set plan)) n in
     let j : r.columns ≡ column_count set plan = a.columns ∙ ap (λ (k : ℕ). count_after k (column_count set plan)) n in
     rw (i, j) (enough set plan (length out) (length scratch) n)

@@ -1,6 +1,8 @@
 // How a cell is printed.
-ghost use Rattle.std.specs.Prelude.{◌≡◌};
+ghost use Rattle.std.specs.Prelude.{◌≡◌, Some};
 ghost use Rattle.listing.specs.Listing.{shown_of};
+
+use std::fmt;
 
 // Blank, off scale, a number of this size below zero, or this number.
 #[derive(Clone, Copy)]
@@ -11,21 +13,36 @@ pub(crate) enum Shown {
     Number(u64),
 }
 
-// By the cell's code. A code below zero is looked at by how far it lies below -1, which fits where its size may not.
-#[tactic(auto, using(crate::proofs::CellLaws::shown))]
+// `-` for blank, `+` for off scale, and a number in decimal.
+impl fmt::Display for Shown {
+    ghost use Rattle.listing.specs.Listing.{shown_text};
+
+    ghost output = { λ shown. Some (shown_text shown) };
+
+    fn fmt<W: fmt::Write>(&self, f: &mut fmt::Formatter<W>) -> fmt::Result {
+        match *self {
+            Shown::Blank => write!(f, "-"),
+            Shown::OffScale => write!(f, "+"),
+            Shown::BelowZero(size) => write!(f, "-{size}"),
+            Shown::Number(number) => write!(f, "{number}"),
+        }
+    }
+}
+
+// By the cell's code.
 pub(crate) fn cell_shown(code: i64) -> Shown
     ensures { result ≡ shown_of code }
 {
-    if code < 0 {
-        let below = (-1 - code) as u64;
-        if below == 9223372036854775807 {
-            return Shown::Blank;
-        }
-        return Shown::BelowZero(below + 1);
+    if code == i64::MIN {
+        return Shown::Blank;
     }
-    let number = code as u64;
-    if number == 9223372036854775807 {
+    if code == i64::MAX {
         return Shown::OffScale;
     }
-    Shown::Number(number)
+    let size = code.unsigned_abs();
+    if code < 0 {
+        Shown::BelowZero(size)
+    } else {
+        Shown::Number(size)
+    }
 }

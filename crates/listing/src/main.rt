@@ -2,12 +2,10 @@
 // report of the plan left. Where a call turns its input back it prints only `refused` and the number.
 #![tactic(auto)]
 
-mod buffers;
 mod cell;
 mod print;
 
-use buffers::{report_codes, scratch_cells};
-use files::{read_file, set_bytes};
+use files::{read_file, set_bytes, zeros};
 use print::{show_refusal, show_report, show_steps};
 use reading::bytes::head;
 use reporting::report::report;
@@ -17,22 +15,23 @@ use unnesting::unnest::unnest;
 fn list(rt: &impl Print, set: &[u8], plan: &[u8]) {
     let mut last = [0u8; 2054];
     let mut steps = [0u8; 384];
-    let mut scratch = scratch_cells();
+    // A plan whose need is larger is refused.
+    let mut scratch: [u64; 262144] = zeros();
     let unnested = unnest(set, plan, &mut last, &mut steps, &mut scratch);
     let turned_back = unnested.refusal;
     if turned_back != 0 {
         show_refusal(rt, turned_back);
         return;
     }
-    let mut codes = report_codes();
-    let answer = report(set, head(&last, unnested.bytes), &mut codes, &mut scratch);
-    let refusal = answer.refusal;
-    if refusal != 0 {
-        show_refusal(rt, refusal);
-        return;
+    // Room for every report: 4,096 rows of 32 columns.
+    let mut codes: [i64; 131072] = zeros();
+    match report(set, head(&last, unnested.bytes), &mut codes, &mut scratch) {
+        Err(refusal) => show_refusal(rt, u8::from(refusal)),
+        Ok(answer) => {
+            show_steps(rt, &steps, unnested.steps);
+            show_report(rt, &codes, answer.rows, answer.columns);
+        }
     }
-    show_steps(rt, &steps, unnested.steps);
-    show_report(rt, &codes, answer.rows, answer.columns);
 }
 
 // The plan's buffer has one byte more than the longest plan, so that a longer file is turned back as the whole of it would be.

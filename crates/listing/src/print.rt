@@ -1,7 +1,7 @@
 // The listing's lines, on standard output. What cannot be printed is lost, and the program goes on.
-ghost use Rattle.std.specs.Prelude.{◌*◌, ◌+◌, ◌≤◌, length};
+ghost use Rattle.std.specs.Prelude.{◌*◌, ◌≤◌, length};
 
-use crate::cell::{Shown, cell_shown};
+use crate::cell::cell_shown;
 
 pub(crate) fn show_refusal(rt: &impl Print, refusal: u8) {
     let _ = println!(rt; "refused {refusal}");
@@ -19,16 +19,6 @@ pub(crate) fn show_steps(rt: &impl Print, steps: &[u8], count: usize)
     }
 }
 
-// Prints a cell: `-` for blank, `+` for off scale, and a number in decimal.
-fn show_cell(rt: &impl Print, code: i64) {
-    let _ = match cell_shown(code) {
-        Shown::Blank => print!(rt; "-"),
-        Shown::OffScale => print!(rt; "+"),
-        Shown::BelowZero(size) => print!(rt; "-{size}"),
-        Shown::Number(n) => print!(rt; "{n}"),
-    };
-}
-
 // Parts the cell at a place in its row from the one before it.
 fn part(rt: &impl Print, i: usize) {
     if 0 < i {
@@ -37,12 +27,11 @@ fn part(rt: &impl Print, i: usize) {
 }
 
 // Prints the cells of a row, parted by spaces. A row of no columns is an empty line.
-fn show_row(rt: &impl Print, codes: &[i64], at: usize, columns: usize)
-    requires { at + columns ≤ length codes.now }
-{
-    for i in 0..columns {
+fn show_row(rt: &impl Print, row: &[i64]) {
+    for (i, &code) in row.iter().enumerate() {
         part(rt, i);
-        show_cell(rt, codes[at + i]);
+        let shown = cell_shown(code);
+        let _ = print!(rt; "{shown}");
     }
     let _ = println!(rt);
 }
@@ -53,6 +42,7 @@ pub(crate) fn show_report(rt: &impl Print, codes: &[i64], rows: usize, columns: 
 {
     let _ = println!(rt; "rows {rows} columns {columns}");
     for i in 0..rows {
-        show_row(rt, codes, i * columns, columns);
+        let at = i * columns;
+        show_row(rt, &codes[at..at + columns]);
     }
 }

@@ -1,16 +1,25 @@
 -- Amounts of pence: sums, one penny each, a pool split evenly, and the shares of a purse. Assumes nothing.
-use Prim.Native.Nat.{ℕ, zero, suc, ◌+◌, ◌*◌, ◌-◌, ◌/◌, ◌%◌, ◌≤◌, ◌<◌}
+use Prim.Native.Nat.{ℕ, zero, suc, ◌+◌, ◌*◌, ◌/◌, ◌%◌, ◌≤◌, ◌<◌}
 use native.Mathlib.Omega.{arith}
 use native.Mathlib.Nat.{mul-add, suc-mul, zero-mul, mul_comm, div-add-mod', mod-lt}
 use native.Mathlib.Numerals.{add-one}
 use mathlib.Core.Path.{◌≡◌, refl, sym, ap, ap₂, ◌∙◌}
 use mathlib.Core.List.{List, [], ◌∷◌, ◌++◌, map, append-nil}
 use lib.ListN.{length, take, drop, get_or, set, replicate, length-map, length-replicate, get_or-replicate, drop_of_length-le}
-use lib.Seq.{drop-cons, take-nil, take_all}
+use lib.Seq.{drop-cons, take_all}
+use Rattle.std.specs.List.{fold, sum}
 use Rattle.algebra.specs.Lists.{total}
 use Rattle.prizes.specs.Payments.{one_each, share_of, left_over, place_pence, split}
 
 -- ---- sums
+
+-- the library's word for a sum adds from the front
+sum_from : (a : ℕ) (xs : List ℕ) → fold (λ s x. s + x) a xs ≡ a + total xs
+sum_from a [] = omega arith
+sum_from a (x ∷ xs) = omega (arith, sum_from (a + x) xs)
+
+pub sum-total : (xs : List ℕ) → sum xs ≡ total xs
+sum-total xs = omega (arith, sum_from 0 xs)
 
 pub total-parts : (n : ℕ) (xs : List ℕ) → total xs ≡ total (take n xs) + total (drop n xs)
 total-parts zero xs = omega arith
@@ -19,24 +28,6 @@ total-parts (suc n) (x ∷ xs) = omega (arith, total-parts n xs)
 
 pub total-next : (xs : List ℕ) (i : ℕ) → i < length xs → total (drop i xs) ≡ get_or xs i 0 + total (drop (i + 1) xs)
 total-next xs i h = ap total (drop-cons xs i 0 h) ∙ ap (λ (k : ℕ). get_or xs i 0 + total (drop k xs)) (sym (add-one i))
-
-pub total-whole : (xs : List ℕ) → total (take (length xs - 0) (drop 0 xs)) ≡ total xs
-total-whole xs = ap total (take_all (length xs - 0) xs (omega arith))
-
-pub total-end : (xs : List ℕ) (i : ℕ) → length xs ≤ i → total (drop i xs) ≡ 0
-total-end xs i h = ap total (drop_of_length-le xs {i = i} h)
-
--- from one place up to another: a place more, none left, and none past the last
-pub between_next : (xs : List ℕ) (i to : ℕ) → i < to → i < length xs → total (take (to - i) (drop i xs)) ≡ get_or xs i 0 + total (take (to - (i + 1)) (drop (i + 1) xs))
-between_next xs i to h k =
-    let e : to - i ≡ suc (to - (i + 1)) = omega arith in
-    ap₂ (λ (n : ℕ) (l : List ℕ). total (take n l)) e (drop-cons xs i 0 k) ∙ ap (λ (j : ℕ). get_or xs i 0 + total (take (to - (i + 1)) (drop j xs))) (sym (add-one i))
-
-pub between_none : (xs : List ℕ) (i to : ℕ) → to ≤ i → total (take (to - i) (drop i xs)) ≡ 0
-between_none xs i to h = let e : to - i ≡ 0 = omega arith in ap (λ (n : ℕ). total (take n (drop i xs))) e
-
-pub between-past : (xs : List ℕ) (i to : ℕ) → length xs ≤ i → total (take (to - i) (drop i xs)) ≡ 0
-between-past xs i to h = ap (λ (l : List ℕ). total (take (to - i) l)) (drop_of_length-le xs {i = i} h) ∙ ap total (take-nil (to - i))
 
 pub total-below : (xs : List ℕ) (i : ℕ) → get_or xs i 0 ≤ total xs
 total-below [] i = omega arith

@@ -33,6 +33,3 @@ module _ (purse : ℕ) (shares : List ℕ) (accepted : fund_number purse shares 
 
   pub valid_purse : purse ≤ 100000000
   valid_purse = leb-true purse 100000000 (both (leb purse 100000000) _ sized.0).0
-
-  pub valid-count : (1 ≤ length shares) × (length shares ≤ 20)
-  valid-count = (leb-true 1 (length shares) (both (leb purse 100000000) _ sized.0).1, leb-true (length shares) 20 sized.1)

@@ -1,4 +1,5 @@
 -- Payments and the club line add up to the purse. Assumes nothing.
+use Rattle.std.specs.Prelude.{Result}
 use Prim.Native.Nat.{ℕ, zero, suc, ◌+◌, ◌≤◌}
 use native.Mathlib.Omega.{arith}
 use mathlib.Core.Bool.{Bool, true, false, and-eq-true_iff}
@@ -11,11 +12,13 @@ use Rattle.algebra.specs.Lists.{all, total}
 use Rattle.algebra.specs.Cells.{is_number}
 use Rattle.algebra.specs.Plans.{Row}
 use Rattle.algebra.proofs.Needs.{total-append}
+use Rattle.reading.specs.Refusals.{number_of}
 use Rattle.reading.specs.Check.{input_refusal}
+use Rattle.reading.specs.declared.refusal.Refusal.{Refusal}
 use Rattle.reporting.specs.Report.{report_rows, row_count, column_count, rows_number, count_after}
 use Rattle.reporting.proofs.Reports.{or-next, accepted-few, few}
 use Rattle.prizes.specs.Payments.{place_pence, runs, pool, split, pay_runs, payments, club_line}
-use Rattle.prizes.specs.Prize.{player_of, score_of, table_codes, row_payments, prize_line, fund_number, table_number, prize_number, Prized}
+use Rattle.prizes.specs.Prize.{player_of, score_of, table_codes, row_payments, prize_line, fund_number, table_number, prize_number, answered_payments, answered_line, Prized}
 use Rattle.prizes.specs.Helpers.{first_run}
 use Rattle.prizes.specs.Laws.{paid_in, AddsUp}
 use Rattle.prizes.specs.declared.answer.Prizes.{Prizes}
@@ -121,8 +124,8 @@ module _ (set plan : List ℕ) (purse : ℕ) (shares : List ℕ) (room scratch_r
       let (rows, table) = or-next (rows_number set plan scratch_room) (table_number purse shares (column_count set plan) (row_count set plan) room) e in
       ((or-next (input_refusal set plan) _ rows).0, (or-next (fund_number purse shares) _ table).0)
 
-module _ (set plan : List ℕ) (purse : ℕ) (shares : List ℕ) (out out' : List ℤ) (scratch scratch' : List ℕ) (r : Prizes) where
-  codes-add : Prized set plan purse shares out out' scratch scratch' r → r.refusal ≡ 0 → paid_in r.rows out' +ℤ pos r.club ≡ pos purse
+module _ (set plan : List ℕ) (purse : ℕ) (shares : List ℕ) (out out' : List ℤ) (scratch scratch' : List ℕ) (r : Result Prizes Refusal) where
+  codes-add : Prized set plan purse shares out out' scratch scratch' r → number_of r ≡ 0 → paid_in (answered_payments r) out' +ℤ pos (answered_line r) ≡ pos purse
   codes-add p e =
       let none : prize_number set plan purse shares (length out) (length scratch) ≡ 0 = sym p.number ∙ e in
       let fund = (prize_accepted set plan purse shares (length out) (length scratch) none).1 in
@@ -134,7 +137,7 @@ module _ (set plan : List ℕ) (purse : ℕ) (shares : List ℕ) (out out' : Lis
       ∙ (pos-+ℤ-pos (total paid) line ∙ ap pos (pence-add (map score_of rows) purse shares fund)))
 
   -- at most 4,096 rows, and no more than the largest purse for the club
-  pub prized-few : Prized set plan purse shares out out' scratch scratch' r → (r.rows ≤ 4096) × (r.club ≤ 100000000)
+  pub prized-few : Prized set plan purse shares out out' scratch scratch' r → (answered_payments r ≤ 4096) × (answered_line r ≤ 100000000)
   prized-few p =
       let z : ℕ = prize_number set plan purse shares (length out) (length scratch) in
       let rows = report_rows set plan in

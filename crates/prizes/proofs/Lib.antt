@@ -1,6 +1,6 @@
 pub mod Amounts
 pub mod Runs
-pub mod Standings
+pub mod RowsInCells
 pub mod Tables
 pub mod ClubLines
 pub mod Funds

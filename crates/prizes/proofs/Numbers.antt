@@ -1,4 +1,5 @@
 -- The call's number and its whole answer, end by end. Assumes nothing.
+use Rattle.std.specs.Prelude.{Result, Ok, Err}
 use Prim.Native.Nat.{ℕ, zero, suc, ◌*◌, ◌≤◌, ◌<◌}
 use native.Mathlib.Omega.{arith}
 use mathlib.Core.Bool.{true, false}
@@ -10,7 +11,11 @@ use lib.ListN.{length, drop, replicate, length-map}
 use borrow.Author.Tests.{le-leb, lt-leb, lt-ltb, le-ltb}
 use Rattle.algebra.specs.Lists.{total}
 use Rattle.reading.specs.Tree.{plan_of}
+use Rattle.reading.specs.Refusals.{refusal_number}
 use Rattle.reading.specs.Check.{input_refusal}
+use Rattle.reading.specs.declared.refusal.Refusal.{Refusal}
+use Rattle.reading.specs.declared.refusal.Refusal.TheVariants.{OutputShort, Shares, FewColumns}
+use Rattle.reading.proofs.Acceptance.{number-positive}
 use Rattle.reporting.specs.Rows.{chunk}
 use Rattle.reporting.specs.Report.{scratch_number, scratch_after, rows_number, rows_left, tree_cells, count_after, output_after, RowsGiven}
 use Rattle.reporting.specs.declared.answer.Report.{Report}
@@ -21,7 +26,7 @@ use Rattle.prizes.specs.Payments.{place_pence}
 use Rattle.prizes.specs.Prize.{score_of, row_payments, prize_table, prize_line, valid_fund, fund_number, table_number, prize_number, Prized}
 use Rattle.prizes.specs.Helpers.{InCells, players_in, PaidOut}
 use Rattle.prizes.specs.declared.answer.Prizes.{Prizes}
-use Rattle.prizes.proofs.Standings.{players-length}
+use Rattle.prizes.proofs.RowsInCells.{players-length}
 use Rattle.prizes.proofs.Tables.{table-length}
 use Rattle.prizes.proofs.Laws.{adds_up}
 
@@ -43,17 +48,17 @@ module _ (purse : ℕ) (shares : List ℕ) where
 
 -- ---- 17, 18 and 15
 module _ (purse : ℕ) (shares : List ℕ) (columns rows room : ℕ) where
-  pub number_17 : valid_fund purse shares ≡ false → table_number purse shares columns rows room ≡ 17
+  pub number_17 : valid_fund purse shares ≡ false → table_number purse shares columns rows room ≡ refusal_number Shares
   unfolding table_number fund_number
   number_17 e = rw e
 
   module _ (v : valid_fund purse shares ≡ true) where
-    pub number_18 : columns < 2 → table_number purse shares columns rows room ≡ 18
+    pub number_18 : columns < 2 → table_number purse shares columns rows room ≡ refusal_number FewColumns
     unfolding table_number fund_number
     number_18 h = rw (v, lt-ltb columns 2 h)
 
     module _ (w : 2 ≤ columns) where
-      pub number_15 : room < 2 * rows → table_number purse shares columns rows room ≡ 15
+      pub number_15 : room < 2 * rows → table_number purse shares columns rows room ≡ refusal_number OutputShort
       unfolding table_number fund_number
       number_15 h = rw (v, le-ltb columns 2 w, lt-ltb room (2 * rows) h)
 
@@ -76,20 +81,23 @@ table-codes rows w cells purse shares =
     let k = adds_up.each_row (map score_of (chunk rows w cells)) (place_pence purse shares) in
     table-length (players_in rows w cells) (row_payments (chunk rows w cells) purse shares) (omega (arith, n, m, k, length-chunk rows w cells)) ∙ ap (λ (x : ℕ). 2 * x) m
 
-module _ (rows w : ℕ) (cells : List ℕ) (purse : ℕ) (shares : List ℕ) (out : List ℤ) (r : Prizes) where
-  pub paid-refused : (z : ℕ) → 0 < z → table_number purse shares w rows (length out) ≡ z → (r.refusal ≡ z) × (r.rows ≡ 0) × (r.club ≡ 0) → PaidOut rows w cells purse shares out out r
-  paid-refused zero h e k = absurd (omega arith)
-  paid-refused (suc z) h e k = record { number = k.0 ∙ sym e; rows_paid = rw e k.1; club = rw e k.2; output = rw e }
+module _ (rows w : ℕ) (cells : List ℕ) (purse : ℕ) (shares : List ℕ) (out : List ℤ) where
+  pub paid-refused : (k : Refusal) → table_number purse shares w rows (length out) ≡ refusal_number k → PaidOut rows w cells purse shares out out (Err k)
+  paid-refused k e = by (refusal_number k) (number-positive k) e refl
+    where
+      by : (z : ℕ) → 0 < z → table_number purse shares w rows (length out) ≡ z → refusal_number k ≡ z → PaidOut rows w cells purse shares out out (Err k)
+      by zero h e q = absurd (omega arith)
+      by (suc z) h e q = record { number = q ∙ sym e; rows_paid = rw e; club = rw e; output = rw e }
 
-  pub paid-done : (out' : List ℤ) → table_number purse shares w rows (length out) ≡ 0 → r.refusal ≡ 0 → r.rows ≡ rows
+  pub paid-done : (out' : List ℤ) (r : Prizes) → table_number purse shares w rows (length out) ≡ 0 → r.rows ≡ rows
       → r.club ≡ prize_line (chunk rows w cells) purse shares → out' ≡ prize_table (chunk rows w cells) purse shares ++ drop (2 * rows) out
-      → PaidOut rows w cells purse shares out out' r
-  paid-done out' e f n c o =
+      → PaidOut rows w cells purse shares out out' (Ok r)
+  paid-done out' r e n c o =
       let table : List ℤ = prize_table (chunk rows w cells) purse shares in
-      record { number = f ∙ sym e; rows_paid = rw e n; club = rw e c; output = rw e (o ∙ ap (λ (k : ℕ). table ++ drop k out) (sym (table-codes rows w cells purse shares))) }
+      record { number = sym e; rows_paid = rw e n; club = rw e c; output = rw e (o ∙ ap (λ (k : ℕ). table ++ drop k out) (sym (table-codes rows w cells purse shares))) }
 
 -- ---- the answer of the call
-module _ (set plan : List ℕ) (purse : ℕ) (shares : List ℕ) (out : List ℤ) (scratch : List ℕ) (r : Prizes) where
+module _ (set plan : List ℕ) (purse : ℕ) (shares : List ℕ) (out : List ℤ) (scratch : List ℕ) where
   -- a report that is refused: its scratch is as the call leaves it
   scratch_left : (z s : ℕ) (cells : List ℕ) → input_refusal set plan ≡ z → scratch_number set plan (length scratch) ≡ s → (rows_number set plan (length scratch) ≡ 0 → ⊥)
       → rows_left z s cells scratch ≡ scratch_after z scratch
@@ -103,30 +111,30 @@ module _ (set plan : List ℕ) (purse : ℕ) (shares : List ℕ) (out : List ℤ
   by_number zero e h = absurd (omega arith)
   by_number (suc z) e h = rw e
 
-  refused-by : (z : ℕ) (scratch' : List ℕ) → 0 < z → prize_number set plan purse shares (length out) (length scratch) ≡ z → (r.refusal ≡ z) × (r.rows ≡ 0) × (r.club ≡ 0)
-      → scratch' ≡ scratch_after (input_refusal set plan) scratch → Prized set plan purse shares out out scratch scratch' r
-  refused-by zero scratch' h e k s = absurd (omega arith)
-  refused-by (suc z) scratch' h e k s = record { number = k.0 ∙ sym e; rows = rw e k.1; club = rw e k.2; output = rw e; cleared = s }
-
-  pub prize_refused : (scratch' : List ℕ) (report : Report) → RowsGiven set plan (plan_of plan) scratch scratch' report → (report.refusal ≡ 0 → ⊥)
-      → (r.refusal ≡ report.refusal) × (r.rows ≡ 0) × (r.club ≡ 0) → Prized set plan purse shares out out scratch scratch' r
-  prize_refused scratch' report g h k =
-      let p : 0 < report.refusal = positive report.refusal h in
-      refused-by report.refusal scratch' p (by_number report.refusal (sym g.number) p) k
-      (g.cells ∙ scratch_left (input_refusal set plan) (scratch_number set plan (length scratch)) (tree_cells set (plan_of plan)) refl refl (λ z. h (g.number ∙ z)))
+  refused-by : (k : Refusal) (scratch' : List ℕ) → prize_number set plan purse shares (length out) (length scratch) ≡ refusal_number k
+      → scratch' ≡ scratch_after (input_refusal set plan) scratch → Prized set plan purse shares out out scratch scratch' (Err k)
+  refused-by k scratch' e s = by (refusal_number k) (number-positive k) e refl
     where
-      positive : (n : ℕ) → (n ≡ 0 → ⊥) → 0 < n
-      positive zero f = absurd (f refl)
-      positive (suc n) f = omega arith
+      by : (z : ℕ) → 0 < z → prize_number set plan purse shares (length out) (length scratch) ≡ z → refusal_number k ≡ z
+          → Prized set plan purse shares out out scratch scratch' (Err k)
+      by zero h e q = absurd (omega arith)
+      by (suc z) h e q = record { number = q ∙ sym e; rows = rw e; club = rw e; output = rw e; cleared = s }
+
+  pub prize_refused : (scratch' : List ℕ) (k : Refusal) → RowsGiven set plan (plan_of plan) scratch scratch' (Err k)
+      → Prized set plan purse shares out out scratch scratch' (Err k)
+  prize_refused scratch' k g =
+      let p : 0 < refusal_number k = number-positive k in
+      refused-by k scratch' (by_number (refusal_number k) (sym g.number) p)
+      (g.cells ∙ scratch_left (input_refusal set plan) (scratch_number set plan (length scratch)) (tree_cells set (plan_of plan)) refl refl (λ z. omega (arith, p, g.number ∙ z)))
 
   -- a report that stands
-  pub prize_paid : (cells scratch' : List ℕ) (out' : List ℤ) (report : Report) → RowsGiven set plan (plan_of plan) scratch cells report → report.refusal ≡ 0
+  pub prize_paid : (r : Result Prizes Refusal) (cells scratch' : List ℕ) (out' : List ℤ) (report : Report) → RowsGiven set plan (plan_of plan) scratch cells (Ok report)
       → PaidOut report.rows report.columns cells purse shares out out' r → scratch' ≡ replicate (length scratch) 0
       → Prized set plan purse shares out out' scratch scratch' r
   unfolding prize_number
-  prize_paid cells scratch' out' report g e p s =
-      let stands = standing set plan scratch cells report g e in
-      let n : rows_number set plan (length scratch) ≡ 0 = sym g.number ∙ e in
+  prize_paid r cells scratch' out' report g p s =
+      let stands = standing set plan scratch cells report g in
+      let n : rows_number set plan (length scratch) ≡ 0 = sym g.number in
       let a : input_refusal set plan ≡ 0 = (not-turned set plan scratch n).0 in
       let t : table_number purse shares report.columns report.rows (length out) ≡ prize_number set plan purse shares (length out) (length scratch) =
       (λ i. table_number purse shares (stands.width i) (stands.count i) (length out)) ∙ sym (rw n) in

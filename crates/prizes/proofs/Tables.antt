@@ -22,7 +22,7 @@ use Rattle.prizes.specs.Prize.{player_of, table_codes}
 use Rattle.prizes.specs.Helpers.{Scored, players_in, scores_in, first_run}
 use Rattle.prizes.proofs.Amounts.{split-length, total-take, total-drop}
 use Rattle.prizes.proofs.Runs.{run-few, paid-from}
-use Rattle.prizes.proofs.Standings.{players-length, scores-length}
+use Rattle.prizes.proofs.RowsInCells.{players-length, scores-length}
 
 -- ---- the codes of rows
 

@@ -1,9 +1,11 @@
 -- What the contracts of the prize call's own functions speak of. Definitions only.
-use Rattle.std.specs.Prelude.{ℕ, suc, ◌*◌, ◌≤◌, ◌≡◌, List, [], ◌∷◌, map, ℤ, length, if◌then◌else◌}
+use Rattle.std.specs.Prelude.{ℕ, suc, ◌*◌, ◌≤◌, ◌≡◌, List, [], ◌∷◌, map, ℤ, length, if◌then◌else◌, Result}
+use Rattle.reading.specs.Refusals.{number_of}
+use Rattle.reading.specs.declared.refusal.Refusal.{Refusal}
 use Rattle.reporting.specs.Rows.{chunk}
 use Rattle.reporting.specs.Report.{count_after, output_after}
 use Rattle.prizes.specs.Payments.{tied, payments}
-use Rattle.prizes.specs.Prize.{player_of, score_of, table_codes, table_number, prize_table, prize_line}
+use Rattle.prizes.specs.Prize.{player_of, score_of, table_codes, table_number, prize_table, prize_line, answered_payments, answered_line}
 use Rattle.prizes.specs.declared.answer.Prizes.{Prizes}
 
 -- ---- a report's rows at the front of cells, w cells each
@@ -44,8 +46,8 @@ first_run (s ∷ scores) = suc (tied_with s scores)
 
 -- ---- the answer of a report that 1 to 14 and 16 do not turn back, by its rows, w cells each
 
-pub record PaidOut (rows w : ℕ) (cells : List ℕ) (purse : ℕ) (shares : List ℕ) (out out' : List ℤ) (r : Prizes) : Type 0 where
-  pub number : r.refusal ≡ table_number purse shares w rows (length out)
-  pub rows_paid : r.rows ≡ count_after (table_number purse shares w rows (length out)) rows
-  pub club : r.club ≡ count_after (table_number purse shares w rows (length out)) (prize_line (chunk rows w cells) purse shares)
+pub record PaidOut (rows w : ℕ) (cells : List ℕ) (purse : ℕ) (shares : List ℕ) (out out' : List ℤ) (r : Result Prizes Refusal) : Type 0 where
+  pub number : number_of r ≡ table_number purse shares w rows (length out)
+  pub rows_paid : answered_payments r ≡ count_after (table_number purse shares w rows (length out)) rows
+  pub club : answered_line r ≡ count_after (table_number purse shares w rows (length out)) (prize_line (chunk rows w cells) purse shares)
   pub output : out' ≡ output_after (table_number purse shares w rows (length out)) (prize_table (chunk rows w cells) purse shares) out

@@ -1,9 +1,11 @@
 -- The answer of the prize call (docs/DEFINITION.md, "The prize fund table" and "The calls"). A set and a plan are lists of bytes.
 -- Definitions only.
-use Rattle.std.specs.Prelude.{ℕ, ◌*◌, Bool, ◌&&◌, ◌≡◌, List, [], ◌∷◌, map, eqb, ltb, leb, ℤ, pos, length, get_or, if◌then◌else◌}
+use Rattle.std.specs.Prelude.{ℕ, ◌*◌, Bool, ◌&&◌, ◌≡◌, List, [], ◌∷◌, map, eqb, ltb, leb, ℤ, pos, length, get_or, if◌then◌else◌, Result, Ok, Err}
 use Rattle.algebra.specs.Lists.{total}
 use Rattle.algebra.specs.Plans.{Row}
+use Rattle.reading.specs.Refusals.{number_of}
 use Rattle.reading.specs.Check.{or_next, input_refusal}
+use Rattle.reading.specs.declared.refusal.Refusal.{Refusal}
 use Rattle.reporting.specs.Report.{report_rows, row_count, column_count, code_of, rows_number, count_after, output_after, scratch_after}
 use Rattle.prizes.specs.Payments.{place_pence, payments, club_line}
 use Rattle.prizes.specs.declared.answer.Prizes.{Prizes}
@@ -61,11 +63,21 @@ unfoldable pub prize_number : List ℕ → List ℕ → ℕ → List ℕ → ℕ
 prize_number set plan purse shares room scratch_room =
     or_next (rows_number set plan scratch_room) (table_number purse shares (column_count set plan) (row_count set plan) room)
 
+-- ---- what is returned: the rows that are paid and the club line, or a refusal, which has zero for both
+
+abbrev pub answered_payments : Result Prizes Refusal → ℕ
+answered_payments (Ok prizes) = prizes.rows
+answered_payments (Err refusal) = 0
+
+abbrev pub answered_line : Result Prizes Refusal → ℕ
+answered_line (Ok prizes) = prizes.club
+answered_line (Err refusal) = 0
+
 -- ---- the whole answer: r is returned, out and scratch become out' and scratch'. A refusal returns zero for the rows and for the club line,
 -- and leaves the output untouched. Scratch is untouched after 1 to 14 and zero after every other call.
-pub record Prized (set plan : List ℕ) (purse : ℕ) (shares : List ℕ) (out out' : List ℤ) (scratch scratch' : List ℕ) (r : Prizes) : Type 0 where
-  pub number : r.refusal ≡ prize_number set plan purse shares (length out) (length scratch)
-  pub rows : r.rows ≡ count_after (prize_number set plan purse shares (length out) (length scratch)) (row_count set plan)
-  pub club : r.club ≡ count_after (prize_number set plan purse shares (length out) (length scratch)) (prize_line (report_rows set plan) purse shares)
+pub record Prized (set plan : List ℕ) (purse : ℕ) (shares : List ℕ) (out out' : List ℤ) (scratch scratch' : List ℕ) (r : Result Prizes Refusal) : Type 0 where
+  pub number : number_of r ≡ prize_number set plan purse shares (length out) (length scratch)
+  pub rows : answered_payments r ≡ count_after (prize_number set plan purse shares (length out) (length scratch)) (row_count set plan)
+  pub club : answered_line r ≡ count_after (prize_number set plan purse shares (length out) (length scratch)) (prize_line (report_rows set plan) purse shares)
   pub output : out' ≡ output_after (prize_number set plan purse shares (length out) (length scratch)) (prize_table (report_rows set plan) purse shares) out
   pub cleared : scratch' ≡ scratch_after (input_refusal set plan) scratch

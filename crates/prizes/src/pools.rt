@@ -1,72 +1,51 @@
-// Runs of rows with equal scores, the pence that such rows pool, and the club line. A report's rows stand at the front of cells.
-ghost use Rattle.std.specs.Prelude.{◌≡◌, ◌+◌, ◌-◌, ◌<◌, ◌≤◌, get_or, take, drop};
-ghost use Rattle.algebra.specs.Cells.{is_number};
-ghost use Rattle.algebra.specs.Lists.{total};
+// Runs of rows with equal scores, the pence that such rows pool, and the club line.
+ghost use Rattle.std.specs.Prelude.{◌≡◌, ◌+◌, ◌-◌, ◌<◌, take, drop};
 ghost use Rattle.prizes.specs.Payments.{pool, club_line};
-ghost use Rattle.prizes.specs.Helpers.{Scored, scores_in, first_run};
+ghost use Rattle.prizes.specs.Helpers.{scores_in, first_run};
 
-use crate::fund::pence_between;
-use reporting::cells::{compare, is_number};
+use crate::fund::Places;
+use crate::standings::Standings;
+use reading::comparison::Comparison;
+use reporting::cells::compare;
 
-// The end of the run that begins with row `from`: the row behind it, or the number of rows.
-pub(crate) fn run_end(cells: &[u64], columns: usize, rows: usize, from: usize) -> usize
-    requires { Scored rows columns cells.now × (from < rows) }
-    ensures { result ≡ from + first_run (drop from (scores_in rows columns cells.now)) }
-{
-    let score = cells[from * columns + 1];
-    let mut i = from + 1;
-    while i < rows {
-        let next = cells[i * columns + 1];
-        if !compare(0, score, next) {
-            return i;
+impl Standings<'_> {
+    // The end of the run that begins with row `from`: the row behind it, or the number of rows.
+    pub(crate) fn run_end(&self, from: usize) -> usize
+        requires { from < self.now.rows }
+        ensures { result ≡ from + first_run (drop from (scores_in self.now.rows self.now.columns self.now.cells.now)) }
+    {
+        let score = self.score(from);
+        for i in from + 1..self.rows {
+            if !compare(Comparison::Equal, score, self.score(i)) {
+                return i;
+            }
         }
-        i += 1;
+        self.rows
     }
-    i
-}
 
-// Whether there is a row i and its score is a number.
-fn has_number(cells: &[u64], columns: usize, rows: usize, i: usize) -> bool
-    requires { Scored rows columns cells.now }
-    ensures { result ≡ is_number (get_or (scores_in rows columns cells.now) i 0) }
-{
-    if rows <= i {
-        return false;
-    }
-    is_number(cells[i * columns + 1])
-}
-
-// The pence of the run of rows from `from` up to `to`: none where its score is no number.
-pub(crate) fn pool_of(
-    cells: &[u64],
-    columns: usize,
-    rows: usize,
-    from: usize,
-    to: usize,
-    pence: &[u64],
-) -> u64
-    requires scored { Scored rows columns cells.now × (from < rows) × (total pence.now ≤ 100000000) }
-    requires to_value { to ≡ from + first_run (drop from (scores_in rows columns cells.now)) }
-    ensures { result ≡ pool (take (to - from) (drop from (scores_in rows columns cells.now))) (drop from pence.now) }
-{
-    if !has_number(cells, columns, rows, from) {
-        return 0;
-    }
-    pence_between(pence, from, to)
-}
-
-// The pence of the places past the last row, and of those whose score is no number.
-pub(crate) fn club_line(cells: &[u64], columns: usize, rows: usize, pence: &[u64]) -> u64
-    requires { Scored rows columns cells.now × (total pence.now ≤ 100000000) }
-    ensures { result ≡ club_line (scores_in rows columns cells.now) pence.now }
-{
-    let mut line = 0u64;
-    let mut i = 0;
-    while i < pence.len() {
-        if !has_number(cells, columns, rows, i) {
-            line += pence[i];
+    // The pence of the run of rows from `from` up to `to`: none where its score is no number.
+    pub(crate) fn pool_of(&self, from: usize, to: usize, places: &Places<'_>) -> u64
+        requires row { from < self.now.rows }
+        requires to_value { to ≡ from + first_run (drop from (scores_in self.now.rows self.now.columns self.now.cells.now)) }
+        ensures { result ≡ pool (take (to - from) (drop from (scores_in self.now.rows self.now.columns self.now.cells.now))) (drop from places.now.pence.now) }
+    {
+        if self.has_number(from) {
+            places.pence_from(from, to - from)
+        } else {
+            0
         }
-        i += 1;
     }
-    line
+
+    // The pence of the places past the last row, and of those whose score is no number.
+    pub(crate) fn club_line(&self, places: &Places<'_>) -> u64
+        ensures { result ≡ club_line (scores_in self.now.rows self.now.columns self.now.cells.now) places.now.pence.now }
+    {
+        let mut line = 0;
+        for (i, &pence) in places.pence.iter().enumerate() {
+            if !self.has_number(i) {
+                line += pence;
+            }
+        }
+        line
+    }
 }

@@ -1,5 +1,5 @@
 -- Laws of the row bound, capped at 4,097. Assumes nothing.
-use Prim.Native.Nat.{ℕ, ◌*◌, ◌/◌, ◌≤◌, ◌<◌, min, max}
+use Prim.Native.Nat.{ℕ, ◌*◌, ◌/◌, ◌≤◌, ◌<◌, min}
 use native.Mathlib.Omega.{arith}
 use native.Mathlib.Decide.{dec_le}
 use native.Mathlib.Nat.{mul-le-mul, mul-zero, zero-mul, mul-one, le-div_iff_mul-le, div-lt_iff_lt-mul}
@@ -17,9 +17,11 @@ use Rattle.algebra.specs.Refusals.{bound, per_row}
 use Rattle.reading.specs.TableSet.{rows_of, table_rows, table_from, tables_of}
 use Rattle.reading.specs.Tree.{operator_by}
 use Rattle.reading.specs.Nodes.{operator_bound}
+use Rattle.reading.specs.declared.kinds.Kind.{Kind}
+use Rattle.reading.specs.declared.kinds.Kind.TheVariants.{Unit, Scan, Cross, Each, Other}
 use Rattle.reading.specs.declared.plan.Node.{Node}
 use Rattle.reading.proofs.Places.{upward-length}
-use Rattle.reading.proofs.Operators.{by_kind, kind-above}
+use Rattle.reading.proofs.Operators.{each_kind}
 use Rattle.reading.proofs.TreeNumbers.{Made}
 
 -- ---- numbers capped at 4,097
@@ -114,33 +116,19 @@ unfolding table_rows
 length-rows table = simp length-map (upward-length (rows_of table) 0)
 
 module _ (set : List ℕ) (node : Node) (x y : ℕ) where
-  abbrev bound_by : ℕ → ℕ
+  abbrev pub bound_by : Kind → ℕ
   bound_by k = operator_bound (tables_of set) (operator_by k node) x y
 
-  pub scan-bound : node.kind ≡ 1 → bound_by node.kind ≡ rows_of (table_from node.arg set)
+  pub scan-bound : node.kind ≡ Scan → bound_by node.kind ≡ rows_of (table_from node.arg set)
   unfolding operator_by
   scan-bound e = ap bound_by e ∙ length-rows (table_from node.arg set)
 
-  pub cross-bound : node.kind ≡ 5 → bound_by node.kind ≡ x * y
-  unfolding operator_by
-  cross-bound e = ap bound_by e
-
-  pub each-bound : node.kind ≡ 11 → bound_by node.kind ≡ x * max 1 y
-  unfolding operator_by
-  each-bound e = ap bound_by e
-
-  pub none-bound : node.kind ≡ 0 → bound_by node.kind ≡ 1
-  unfolding operator_by
-  none-bound e = ap bound_by e
-
-  pub above-bound : 14 < node.kind → bound_by node.kind ≡ 1
-  above-bound h = ap (λ op. operator_bound (tables_of set) op x y) (kind-above node node.kind h)
-
-  pub first-bound : 1 ≤ node.kind → node.kind < 15 → (node.kind ≡ 1 → ⊥) → (node.kind ≡ 5 → ⊥) → (node.kind ≡ 11 → ⊥) → bound_by node.kind ≡ x
+  -- the kinds whose rows are no more than their first child's
+  pub first-bound : (k : Kind) → (k ≡ Unit → ⊥) → ((b : ℕ) → k ≡ Other b → ⊥) → (k ≡ Scan → ⊥) → (k ≡ Cross → ⊥) → (k ≡ Each → ⊥) → bound_by k ≡ x
   unfolding operator_by
   first-bound =
-      by_kind (λ k. 1 ≤ k → k < 15 → (k ≡ 1 → ⊥) → (k ≡ 5 → ⊥) → (k ≡ 11 → ⊥) → bound_by k ≡ x)
-      (λ a b o p q. absurd (omega arith)) (λ a b o p q. absurd (o refl)) (λ a b o p q. refl) (λ a b o p q. refl) (λ a b o p q. refl)
+      each_kind (λ k. (k ≡ Unit → ⊥) → ((b : ℕ) → k ≡ Other b → ⊥) → (k ≡ Scan → ⊥) → (k ≡ Cross → ⊥) → (k ≡ Each → ⊥) → bound_by k ≡ x)
+      (λ a b o p q. absurd (a refl)) (λ a b o p q. absurd (o refl)) (λ a b o p q. refl) (λ a b o p q. refl) (λ a b o p q. refl)
       (λ a b o p q. absurd (p refl)) (λ a b o p q. mul-one x) (λ a b o p q. mul-one x) (λ a b o p q. mul-one x) (λ a b o p q. mul-one x)
       (λ a b o p q. mul-one x) (λ a b o p q. absurd (q refl)) (λ a b o p q. mul-one x) (λ a b o p q. refl) (λ a b o p q. refl)
-      (λ k h a b o p q. absurd (omega arith)) node.kind
+      (λ k a b o p q. absurd (b k refl))

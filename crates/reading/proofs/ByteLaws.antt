@@ -3,7 +3,7 @@ use Rattle.std.specs.Prelude.{if◌then◌else◌}
 use Prim.Native.Nat.{ℕ, zero, suc, ◌+◌, ◌*◌, ◌≤◌, ◌<◌}
 use native.Mathlib.Omega.{arith}
 use native.Mathlib.Decide.{dec_lt, dec_le}
-use mathlib.Core.Path.{◌≡◌, refl, sym, ap, ◌∙◌}
+use mathlib.Core.Path.{◌≡◌, refl, ◌∙◌}
 use mathlib.Core.Bool.{Bool, true, false, not, cond, and-eq-true_iff}
 use mathlib.Core.List.{List, [], ◌∷◌, ◌++◌}
 use lib.Dec.{eqb, leb}
@@ -20,16 +20,18 @@ use Rattle.algebra.proofs.Lists.{all-member, all_from}
 use Rattle.reading.specs.Bytes.{byte_at}
 use Rattle.reading.specs.Versions.{node_size}
 use Rattle.reading.specs.declared.version.Version.{Version}
-use Rattle.reading.specs.Plan.{test_number, plan_version, node_part, test_of, node_of, node_at, nodes_of}
-use Rattle.reading.specs.Tree.{form_of, aggregate_of, operator_of, plan_at}
+use Rattle.reading.specs.Plan.{comparison_from, test_number, plan_version, node_part, test_of, node_of, node_at, nodes_of}
+use Rattle.reading.specs.Tree.{form_of, aggregate_of, operator_by, operator_of, plan_at}
 use Rattle.reading.specs.declared.plan.Test.TheVariants.{Always, Columns, Number}
+use Rattle.reading.specs.declared.kinds.Kind.{Kind}
+use Rattle.reading.specs.declared.kinds.Kind.TheVariants.{Unit, Scan, Select, Project, Distinct, Cross, Semi, Anti, Some, Every, Fold, Each, Pair, Group, Sort, Other}
 use Rattle.reading.specs.declared.plan.Node.{Node}
 use Rattle.reading.proofs.FieldBytes.{Bytes}
 use Rattle.reading.proofs.FlagLaws.{SameMembers}
 use Rattle.reading.proofs.Places.{all-joined}
 use Rattle.reading.proofs.Trees.{plan_past, plan_case, first_tree, second_tree}
-use Rattle.reading.specs.Frees.{unary_names, operator_names, node_names, names_of, test_named, row_names}
-use Rattle.reading.proofs.FreeLaws.{names-by-kind, unary-free}
+use Rattle.reading.specs.Frees.{unary_names, operator_names, test_named, row_names}
+use Rattle.reading.proofs.FreeLaws.{unary-free}
 
 -- ---- lists of bytes
 
@@ -77,7 +79,7 @@ module _ (v : Version) (part : List ℕ) (h : Bytes part) where
     tested = by (eqb (byte_at part 16) 0) (eqb (byte_at part 16) 1);
   }
     where
-      by : (a b : Bool) → all byte (form_names (form_of (if a then Always else if b then Columns (byte_at part 17) (byte_at part 19) (byte_at part 20) else Number (byte_at part 17) (byte_at part 19) (test_number v part)))) ≡ true
+      by : (a b : Bool) → all byte (form_names (form_of (if a then Always else if b then Columns (comparison_from (byte_at part 17)) (byte_at part 19) (byte_at part 20) else Number (comparison_from (byte_at part 17)) (byte_at part 19) (test_number v part)))) ≡ true
       by true b = refl
       by false true = rw (small_at 19, small_at 20)
       by false false = rw (small_at 19)
@@ -113,17 +115,27 @@ module _ (node : Node) (s : Small node) where
   small_row : all byte (row_names node) ≡ true
   small_row = all_both (measured (aggregate_of node.arg node.column)) (test_named node) small-measured s.tested
 
-  small-names : (n : ℕ) → all byte (node_names n node) ≡ true
-  small-names zero = refl
-  small-names (suc zero) = all_take node.listed node.list s.list
-  small-names (suc (suc zero)) = s.tested
-  small-names (suc (suc (suc zero))) = rw (s.left, s.right, s.tested)
-  small-names (suc (suc (suc (suc zero)))) = small_row
-  small-names (suc (suc (suc (suc (suc zero))))) = rw (s.left, s.right, small_row)
-  small-names (suc (suc (suc (suc (suc (suc n)))))) = rw (s.right, all-minus (row_names node) (node.left ∷ []) small_row)
+  small-names : (k : Kind) → all byte (operator_names (operator_by k node)) ≡ true
+  unfolding operator_by
+  small-names Unit = refl
+  small-names Scan = refl
+  small-names Select = s.tested
+  small-names Project = all_take node.listed node.list s.list
+  small-names Distinct = all_take node.listed node.list s.list
+  small-names Cross = refl
+  small-names Semi = rw (s.left, s.right, s.tested)
+  small-names Anti = rw (s.left, s.right, s.tested)
+  small-names Some = s.tested
+  small-names Every = s.tested
+  small-names Fold = small_row
+  small-names Each = refl
+  small-names Pair = rw (s.left, s.right, small_row)
+  small-names Group = rw (s.right, all-minus (row_names node) (node.left ∷ []) small_row)
+  small-names Sort = all_take node.listed node.list s.list
+  small-names (Other b) = refl
 
   small_operator : all byte (operator_names (operator_of node)) ≡ true
-  small_operator = ap (all byte) (sym (names-by-kind node node.kind)) ∙ small-names (names_of node.kind)
+  small_operator = small-names node.kind
 
 -- ---- what a tree names from outside itself
 

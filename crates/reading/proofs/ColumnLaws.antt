@@ -1,20 +1,19 @@
 -- Laws of the number of columns, capped at 33. Assumes nothing.
-use Prim.Native.Nat.{ℕ, ◌+◌, ◌≤◌, ◌<◌, min}
+use Prim.Native.Nat.{ℕ, min}
 use native.Mathlib.Omega.{arith}
-use native.Mathlib.Decide.{ℕ_discrete}
-use mathlib.Core.Path.{◌≡◌, refl, ap, sym, subst, ◌∙◌}
-use mathlib.Core.Logic.{◌⊎◌, ⊎_elim}
+use mathlib.Core.Path.{◌≡◌, refl, ap, ◌∙◌}
 use mathlib.Core.List.{List}
-use lib.ListN.{length, length-append}
+use lib.ListN.{length-append}
 use Rattle.algebra.specs.Plans.{Tables, Leaf, unit, Unary, select, project, distinct, group, sort, Binary, cross, semi, quant, fold, each, pair, Plan, leaf, one, two, columns}
 use Rattle.algebra.specs.Places.{Operator, leaf_node, unary_node, binary_node}
 use Rattle.algebra.specs.Refusals.{width}
 use Rattle.reading.specs.TableSet.{columns_of, table_from, tables_of}
-use Rattle.reading.specs.Tree.{operator_by, node_list}
+use Rattle.reading.specs.Tree.{operator_by}
 use Rattle.reading.specs.Nodes.{operator_width}
+use Rattle.reading.specs.declared.kinds.Kind.{Kind}
+use Rattle.reading.specs.declared.kinds.Kind.TheVariants.{Scan}
 use Rattle.reading.specs.declared.plan.Node.{Node}
 use Rattle.reading.proofs.Places.{upward-length}
-use Rattle.reading.proofs.Operators.{kind-above}
 use Rattle.reading.proofs.TreeNumbers.{Made}
 
 -- ---- a node's columns, of those of its children
@@ -64,56 +63,10 @@ module _ (T : Tables) where
 
 -- ---- by the kind
 
--- a fact of a number, from the fact of n, or else of a number that is not n
-or_else : (P : ℕ → Type 0) (k n : ℕ) → P n → ((k ≡ n → ⊥) → P k) → P k
-or_else P k n p f = elim (ℕ_discrete k n) [
-  | yes e ↦ subst P (sym e) p
-  | no d ↦ f d
-]
-
 module _ (set : List ℕ) (node : Node) (v w : ℕ) where
-  abbrev width_by : ℕ → ℕ
+  abbrev pub width_by : Kind → ℕ
   width_by k = operator_width (tables_of set) (operator_by k node) v w
 
-  pub scan-width : node.kind ≡ 1 → width_by node.kind ≡ columns_of (table_from node.arg set)
+  pub scan-width : node.kind ≡ Scan → width_by node.kind ≡ columns_of (table_from node.arg set)
   unfolding operator_by
   scan-width e = ap width_by e ∙ upward-length _ _
-
-  pub list-width : 1 ≤ node.kind → node.kind < 5 → (node.kind ≡ 1 → ⊥) → (node.kind ≡ 2 → ⊥) → width_by node.kind ≡ length (node_list node)
-  unfolding operator_by
-  list-width a b m n = or_else (λ k. width_by k ≡ length (node_list node)) node.kind 3 refl (λ c. or_else (λ k. width_by k ≡ length (node_list node)) node.kind 4 refl (λ d. absurd (omega arith)))
-
-  pub both-width : (node.kind ≡ 5) ⊎ (node.kind ≡ 11) → width_by node.kind ≡ v + w
-  unfolding operator_by
-  both-width = ⊎_elim (λ e. ap width_by e) (λ e. ap width_by e)
-
-  pub more-width : (node.kind ≡ 10) ⊎ (node.kind ≡ 12) → width_by node.kind ≡ v + 1
-  unfolding operator_by
-  more-width = ⊎_elim (λ e. ap width_by e) (λ e. ap width_by e)
-
-  pub group-width : node.kind ≡ 13 → width_by node.kind ≡ 2
-  unfolding operator_by
-  group-width e = ap width_by e
-
-  pub first_width : (node.kind ≡ 2) ⊎ (node.kind ≡ 14) → width_by node.kind ≡ v
-  unfolding operator_by
-  first_width = ⊎_elim (λ e. ap width_by e) (λ e. ap width_by e)
-
-  -- Semi, Anti, Some, Every
-  pub left-width : 5 ≤ node.kind → node.kind < 10 → (node.kind ≡ 5 → ⊥) → width_by node.kind ≡ v
-  unfolding operator_by
-  left-width a b n =
-      or_else (λ k. width_by k ≡ v) node.kind 6 refl
-      (λ p. or_else (λ k. width_by k ≡ v) node.kind 7 refl
-      (λ q. or_else (λ k. width_by k ≡ v) node.kind 8 refl
-      (λ r. or_else (λ k. width_by k ≡ v) node.kind 9 refl
-      (λ s. absurd (omega arith)))))
-
-  -- no kind
-  pub none-width : node.kind ≡ 0 → width_by node.kind ≡ 0
-  unfolding operator_by
-  none-width e = ap width_by e
-
-  pub above-width : 10 ≤ node.kind → (node.kind ≡ 10 → ⊥) → (node.kind ≡ 11 → ⊥) → (node.kind ≡ 12 → ⊥) → (node.kind ≡ 13 → ⊥) → (node.kind ≡ 14 → ⊥)
-      → width_by node.kind ≡ 0
-  above-width h a b c d e = ap (λ op. operator_width (tables_of set) op v w) (kind-above node node.kind (omega arith))

@@ -7,7 +7,7 @@ use native.Mathlib.Decide.{ℕ_discrete}
 use lib.Dec.{eqb}
 use borrow.Author.Tests.{eq-eqb, ne_eqb}
 use Rattle.algebra.specs.Places.{size}
-use Rattle.reading.specs.Plan.{node_at, nodes_of, kind_entry}
+use Rattle.reading.specs.Plan.{node_at, nodes_of, kind_entry, kind_row}
 use Rattle.reading.specs.Tree.{operator_at, plan_at}
 use Rattle.reading.specs.Nodes.{arity}
 use Rattle.reading.specs.declared.plan.Node.{Node}
@@ -20,8 +20,8 @@ end_at plan i = min (i + size (plan_at plan i)) (nodes_of plan + 1)
 
 module _ (plan : List ℕ) (i : ℕ) where
   -- how many children the node at the place has, as the table of kinds says of the node that was read there
-  pub children-at : (node : Node) (r : ℕ) → node ≡ node_at plan i → r ≡ kind_entry node.kind 0 → r ≡ arity (operator_at plan i)
-  children-at node r e q = q ∙ ap (λ (x : Node). kind_entry x.kind 0) e ∙ arity_of (node_at plan i)
+  pub children-at : (node : Node) (r : ℕ) → node ≡ node_at plan i → r ≡ kind_entry (kind_row node.kind) 0 → r ≡ arity (operator_at plan i)
+  children-at node r e q = q ∙ ap (λ (x : Node). kind_entry (kind_row x.kind) 0) e ∙ arity_of (node_at plan i)
 
   pub end-past : nodes_of plan ≤ i → nodes_of plan + 1 ≡ end_at plan i
   unfolding size

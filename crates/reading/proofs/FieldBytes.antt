@@ -17,7 +17,7 @@ use Rattle.reading.specs.Bytes.{byte_at, unsigned_at, all_below}
 use Rattle.reading.specs.Versions.{cell_size, test_size, reach_of, word_of, unsigned_code}
 use Rattle.reading.specs.declared.version.Version.{Version}
 use Rattle.reading.specs.declared.version.Version.TheVariants.{First, Second}
-use Rattle.reading.specs.Plan.{test_limits, limited, test_row}
+use Rattle.reading.specs.Plan.{comparison_from, test_limits, limited, test_row}
 use Rattle.reading.specs.Tree.{comparison_of, aggregate_of, form_of}
 use Rattle.reading.specs.declared.plan.Test.TheVariants.{Always, Columns, Number}
 use Rattle.reading.specs.Encoding.{comparison_byte, mark_byte, aggregate_byte, column_byte, low_bytes, number_bytes, test_bytes, no_test, test_within, list_bytes}
@@ -49,7 +49,7 @@ byte-is a h = le-leb a 255 (omega (arith, ltb-true a 256 h))
 
 -- ---- comparisons, marks, aggregates
 
-pub comparison-back : (c : Comparison) → comparison_of (comparison_byte c) ≡ c
+pub comparison-back : (c : Comparison) → comparison_of (comparison_from (comparison_byte c)) ≡ c
 comparison-back eq = refl
 comparison-back ne = refl
 comparison-back lt = refl
@@ -68,10 +68,10 @@ comparison_limit ge = refl
 pub comparison-small : (c : Comparison) → byte (comparison_byte c) ≡ true
 comparison-small c = lt-ltb (comparison_byte c) 256 (omega (arith, leb-true (comparison_byte c) 5 (comparison_limit c)))
 
-pub comparison-byte : (c : ℕ) → leb c 5 ≡ true → comparison_byte (comparison_of c) ≡ c
+pub comparison-byte : (c : ℕ) → leb c 5 ≡ true → comparison_byte (comparison_of (comparison_from c)) ≡ c
 comparison-byte c h = go c (leb-true c 5 h)
   where
-    go : (c : ℕ) → c ≤ 5 → comparison_byte (comparison_of c) ≡ c
+    go : (c : ℕ) → c ≤ 5 → comparison_byte (comparison_of (comparison_from c)) ≡ c
     go zero l = refl
     go (suc zero) l = refl
     go (suc (suc zero)) l = refl
@@ -235,7 +235,7 @@ zeros_after v = rest_size v - cell_size v
 -- the test that they are
 abbrev pub test_on : Version → ℕ → ℕ → ℕ → ℕ → List ℕ → Test
 test_on v f c m l s =
-    test (eqb m 1) (form_of (if eqb f 0 then Always else if eqb f 1 then Columns c l (byte_at s 0) else Number c l (word_of v (unsigned_at (cell_size v) s 0))))
+    test (eqb m 1) (form_of (if eqb f 0 then Always else if eqb f 1 then Columns (comparison_from c) l (byte_at s 0) else Number (comparison_from c) l (word_of v (unsigned_at (cell_size v) s 0))))
 
 abbrev pub test_limited : Version → ℕ → ℕ → ℕ → ℕ → List ℕ → Bool
 test_limited v f c m l s =

@@ -1,15 +1,15 @@
 -- Laws of flags and of the lists that they stand for: only the members count. Assumes nothing.
 use Rattle.std.specs.Prelude.{if◌then◌else◌}
-use Prim.Native.Nat.{ℕ, ◌+◌, ◌≤◌, ◌<◌, min}
+use Prim.Native.Nat.{ℕ, ◌+◌, ◌≤◌, ◌<◌}
 use native.Mathlib.Omega.{arith}
-use native.Mathlib.Decide.{ℕ_discrete, dec_le}
+use native.Mathlib.Decide.{ℕ_discrete}
 use native.Mathlib.Numerals.{add-one}
 use mathlib.Core.Path.{◌≡◌, refl, sym, ap, ◌∙◌}
 use mathlib.Core.Bool.{Bool, true, false, not, ◌&&◌, ◌||◌, and-true, and-false}
 use mathlib.Core.List.{List, [], ◌∷◌, ◌++◌, append_assoc, append-nil}
 use lib.Dec.{eqb}
-use lib.ListN.{length, get_or, set, length-set, take, drop, replicate, get_or-replicate}
-use lib.Seq.{get_or-set_same, get_or-set_other, take-suc, take_all, drop-cons, drop-length, length-take-le, get_or-take}
+use lib.ListN.{length, get_or, set, length-set, take, drop, drop_of_length-le, replicate, get_or-replicate}
+use lib.Seq.{get_or-set_same, get_or-set_other, take-suc, drop-cons}
 use borrow.Author.Tests.{eq-eqb, ne_eqb}
 use Rattle.algebra.specs.Lists.{member, minus, unique, within}
 use Rattle.algebra.specs.Refusals.{list_in_view}
@@ -169,60 +169,41 @@ sees_once-none flags = record { decides = λ ids f. refl }
 
 -- ---- the first ids of a list
 
--- a list of 7 entries has no more than these
-pub list-part : (listed : ℕ) (list : List ℕ) → length list ≡ 7 → take listed list ≡ take (min listed 7) list
-list-part listed list h = elim (dec_le listed 7) [
-  | yes l ↦ let q : min listed 7 ≡ listed = omega arith in rw q
-  | no l ↦ take_all listed list (omega arith) ∙ sym (take_all (min listed 7) list (omega arith))
-]
-
 -- one id more
-pub list-adds : {flags marks : List ℕ} (list : List ℕ) (j x : ℕ) → j < length list → x ≡ get_or list j 0 → x < 256 → Adds flags (take j list) marks
-    → Adds flags (take (j + 1) list) (set marks x 1)
-list-adds {flags} {marks} list j x l e h a =
-    adds_same (adds_then a (flag_adds marks x h)) (rw (add-one j, take-suc list j 0 l, ← e) (members_swap (x ∷ []) (take j list)))
+pub list-adds : {flags marks : List ℕ} (list : List ℕ) (j : ℕ) → j < length list → get_or list j 0 < 256 → Adds flags (take j list) marks
+    → Adds flags (take (j + 1) list) (set marks (get_or list j 0) 1)
+list-adds {flags} {marks} list j l h a =
+    adds_same (adds_then a (flag_adds marks (get_or list j 0) h)) (rw (add-one j, take-suc list j 0 l) (members_swap (get_or list j 0 ∷ []) (take j list)))
 
--- the ids that are left after the first j
-abbrev pub ids_left : List ℕ → ℕ → ℕ → List ℕ
-ids_left list count j = drop j (take count list)
+-- What the flags that are left decide of the ids from place j on, as the flags given do of the whole list.
+pub record ListLeft (flags list left : List ℕ) (j : ℕ) : Type 0 where
+  pub decides : (ids : List ℕ) → Flags flags ids → (rest : List ℕ) × Flags left rest × (list_in_view list ids ≡ list_in_view (drop j list) rest)
 
-pub ids-end : (list : List ℕ) (count : ℕ) → count ≤ length list → ids_left list count count ≡ []
-ids-end list count h = let q : length (take count list) ≡ count = length-take-le count list h in rw q at (drop-length (take count list))
+ids_next : (list : List ℕ) (j : ℕ) → j < length list → drop j list ≡ get_or list j 0 ∷ drop (j + 1) list
+ids_next list j l = rw (drop-cons list j 0 l, add-one j)
 
-pub ids_next : (list : List ℕ) (count j x : ℕ) → j < count → count ≤ length list → x ≡ get_or list j 0 → ids_left list count j ≡ x ∷ ids_left list count (j + 1)
-ids_next list count j x l h e =
-    let q : j < length (take count list) = omega (arith, length-take-le count list h) in
-    rw (drop-cons (take count list) j 0 q, get_or-take count list j 0 l, add-one j, e)
-
--- What the flags that are left decide of the ids that are left, as the flags given do of the whole list.
-pub record ListLeft (flags list : List ℕ) (count : ℕ) (left : List ℕ) (j : ℕ) : Type 0 where
-  pub decides : (ids : List ℕ) → Flags flags ids → (rest : List ℕ) × Flags left rest × (list_in_view (take count list) ids ≡ list_in_view (ids_left list count j) rest)
-
-pub left-first : (flags list : List ℕ) (count : ℕ) → ListLeft flags list count flags 0
-left-first flags list count = record { decides = λ ids f. (ids, f, refl) }
-
-module _ {flags list left : List ℕ} {count j : ℕ} (s : ListLeft flags list count left j) (h : count ≤ length list) where
-  module _ (l : j < count) (x : ℕ) (q : x ≡ get_or list j 0) (k : x < 256) where
-    pub left_absent : (get_or left x 0 ≡ 1 → ⊥) → SeesOnce flags (take count list) false
+module _ {flags list left : List ℕ} {j : ℕ} (s : ListLeft flags list left j) where
+  module _ (l : j < length list) (k : get_or list j 0 < 256) where
+    pub left_absent : (get_or left (get_or list j 0) 0 ≡ 1 → ⊥) → SeesOnce flags list false
     left_absent z = record {
       decides = λ ids f.
           let (rest, g, e) = s.decides ids f in
-          sym (e ∙ (ap (λ xs. list_in_view xs rest) (ids_next list count j x l h q) ∙ list_absent x (ids_left list count (j + 1)) rest (flag_absent left rest g x k z)));
+          sym (e ∙ (ap (λ xs. list_in_view xs rest) (ids_next list j l) ∙ list_absent (get_or list j 0) (drop (j + 1) list) rest (flag_absent left rest g (get_or list j 0) k z)));
     }
 
-    pub left-more : get_or left x 0 ≡ 1 → ListLeft flags list count (set left x 0) (j + 1)
+    pub left-more : get_or left (get_or list j 0) 0 ≡ 1 → ListLeft flags list (set left (get_or list j 0) 0) (j + 1)
     left-more z = record {
       decides = λ ids f.
           let (rest, g, e) = s.decides ids f in (
-            minus rest (x ∷ []),
-            flag_cleared left rest g x k,
-            e ∙ (ap (λ xs. list_in_view xs rest) (ids_next list count j x l h q) ∙ list-more x (ids_left list count (j + 1)) rest (flag_present left rest g x k z)),
+            minus rest (get_or list j 0 ∷ []),
+            flag_cleared left rest g (get_or list j 0) k,
+            e ∙ (ap (λ xs. list_in_view xs rest) (ids_next list j l) ∙ list-more (get_or list j 0) (drop (j + 1) list) rest (flag_present left rest g (get_or list j 0) k z)),
           );
     }
 
-  pub left_end : j ≡ count → SeesOnce flags (take count list) true
+  pub left_end : length list ≤ j → SeesOnce flags list true
   left_end q = record {
     decides = λ ids f.
         let (rest, g, e) = s.decides ids f in
-        sym (e ∙ (ap (λ m. list_in_view (ids_left list count m) rest) q ∙ ap (λ xs. list_in_view xs rest) (ids-end list count h)));
+        sym (e ∙ ap (λ xs. list_in_view xs rest) (drop_of_length-le list q));
   }

@@ -4,26 +4,28 @@ use Prim.Native.Nat.{ℕ, zero, suc, ◌+◌, ◌≤◌, ◌<◌}
 use native.Mathlib.Omega.{arith}
 use native.Mathlib.Decide.{ℕ_discrete}
 use mathlib.Core.Path.{◌≡◌, refl, sym, ap, ap₂, ◌∙◌, subst}
+use mathlib.Core.Logic.{◌⊎◌}
 use mathlib.Core.Bool.{Bool, true, false, not, ◌&&◌, ◌||◌, and-true, and-false, or-true, and-eq-true_iff, false≢true}
 use mathlib.Core.List.{List, [], ◌∷◌, ◌++◌}
 use lib.Dec.{eqb}
-use lib.ListN.{length, get_or, set, length-set, replicate, get_or-replicate, get_or-eq_default}
-use lib.Seq.{get_or-set_same, get_or-set_other}
+use lib.ListN.{get_or, replicate, get_or-replicate, get_or-eq_default}
 use borrow.Author.Tests.{eq-eqb, ne_eqb, ltb-true}
 use Rattle.algebra.specs.Lists.{all, member, minus, is_empty, upward}
 use Rattle.algebra.specs.Plans.{Tables, names, Unary, select, project, distinct, group, sort, columns}
 use Rattle.algebra.specs.Names.{measured, unary_free, free}
 use Rattle.algebra.specs.Refusals.{byte}
-use Rattle.reading.specs.Plan.{kind_entry, node_at, nodes_of}
+use Rattle.reading.specs.Plan.{kind_entry, kind_row, node_at, nodes_of}
 use Rattle.reading.specs.Tree.{operator_by, operator_of, operator_at, plan_at}
 use Rattle.reading.specs.Flags.{Flags}
 use Rattle.reading.specs.Nodes.{arity, operator_nested}
+use Rattle.reading.specs.declared.kinds.Kind.{Kind}
+use Rattle.reading.specs.declared.kinds.Kind.TheVariants.{Unit, Scan, Select, Project, Distinct, Cross, Semi, Anti, Some, Every, Fold, Each, Pair, Group, Sort, Other}
 use Rattle.reading.specs.declared.plan.Node.{Node}
-use Rattle.reading.proofs.Operators.{by_kind, kind-above}
+use Rattle.reading.proofs.Operators.{each_kind, one_of, just}
 use Rattle.reading.proofs.Ends.{children-at}
 use Rattle.reading.proofs.Trees.{plan_case, first_tree, second_tree}
 use Rattle.reading.proofs.FlagLaws.{SameMembers, member_append, flag_decides}
-use Rattle.reading.specs.Frees.{unary_names, operator_names, names_table, names_of, node_names, row_names, operator_free, SetWhere}
+use Rattle.reading.specs.Frees.{unary_names, operator_names, operator_free, SetWhere}
 
 -- ---- members
 
@@ -74,39 +76,6 @@ module _ {flags at r xs ys : List ℕ} (f : Flags flags xs) (g : Flags at ys) wh
       by false true = refl
       by false false = refl
 
--- The first k flags have the value where `at` flags an id; the others are as they were.
-pub record SetSoFar (flags at : List ℕ) (value : ℕ) (marks : List ℕ) (k : ℕ) : Type 0 where
-  pub long : length marks ≡ 256
-  pub done : (j : ℕ) → j < k → get_or marks j 0 ≡ (if eqb (get_or at j 0) 1 then value else get_or flags j 0)
-  pub left : (j : ℕ) → k ≤ j → get_or marks j 0 ≡ get_or flags j 0
-
-pub set-none : (flags at : List ℕ) (value : ℕ) → length flags ≡ 256 → SetSoFar flags at value flags 0
-set-none flags at value h = record { long = h; done = λ j l. absurd (omega arith); left = λ j l. refl }
-
-module _ {flags at marks : List ℕ} {value k : ℕ} (s : SetSoFar flags at value marks k) where
-  pub set-taken : k < 256 → get_or at k 0 ≡ 1 → SetSoFar flags at value (set marks k value) (k + 1)
-  set-taken h e = record {
-    long = length-set marks k value ∙ s.long;
-    done = λ j l. by j l (ℕ_discrete j k);
-    left = λ j l. get_or-set_other marks k j value 0 (λ q. omega arith) ∙ s.left j (omega arith);
-  }
-    where
-      by : (j : ℕ) → j < k + 1 → Dec (j ≡ k) → get_or (set marks k value) j 0 ≡ (if eqb (get_or at j 0) 1 then value else get_or flags j 0)
-      by j l (yes q) =
-          let b : k < length marks = omega (arith, s.long) in
-          rw (q, get_or-set_same marks k value 0 b, eq-eqb (get_or at k 0) 1 e)
-      by j l (no q) = get_or-set_other marks k j value 0 q ∙ s.done j (omega arith)
-
-  pub set-passed : (get_or at k 0 ≡ 1 → ⊥) → SetSoFar flags at value marks (k + 1)
-  set-passed e = record { long = s.long; done = λ j l. by j l (ℕ_discrete j k); left = λ j l. s.left j (omega arith) }
-    where
-      by : (j : ℕ) → j < k + 1 → Dec (j ≡ k) → get_or marks j 0 ≡ (if eqb (get_or at j 0) 1 then value else get_or flags j 0)
-      by j l (yes q) = rw (q, ne_eqb (get_or at k 0) 1 e) (s.left k (omega arith))
-      by j l (no q) = s.done j (omega arith)
-
-  pub set-end : 256 ≤ k → SetWhere flags at value marks
-  set-end h = record { long = s.long; right = λ j l. s.done j (omega arith) }
-
 -- ---- lists that have no id in common
 
 apart-not : (k : ℕ) (xs ys : List ℕ) → member k xs ≡ true → member k ys ≡ true → all (λ x. not (member x ys)) xs ≡ false
@@ -133,10 +102,6 @@ module _ {flags other xs ys : List ℕ} (f : Flags flags xs) (g : Flags other ys
   flags_apart a h = apart-is xs ys a (λ k l m.
       sym (flag_decides other ys g k l) ∙ sym (ap (λ b. b && eqb (get_or other k 0) 1) (flag_decides flags xs f k l ∙ m)) ∙ h k l)
 
-pub apart_next : (flags other : List ℕ) (k : ℕ) → ((j : ℕ) → j < k → (eqb (get_or flags j 0) 1 && eqb (get_or other j 0) 1) ≡ false)
-    → (eqb (get_or flags k 0) 1 && eqb (get_or other k 0) 1) ≡ false → (j : ℕ) → j < k + 1 → (eqb (get_or flags j 0) 1 && eqb (get_or other j 0) 1) ≡ false
-apart_next flags other k h e j l = elim (ℕ_discrete j k) [ yes q ↦ rw q e | no q ↦ h j (omega arith) ]
-
 -- every id is flagged
 member-run : (n first k : ℕ) → first ≤ k → k < first + n → member k (upward n first) ≡ true
 member-run zero first k h l = absurd (omega arith)
@@ -158,55 +123,41 @@ apart-every (x ∷ xs) a =
 
 -- ---- by kind
 
--- what a node names, by the table
-pub names-by-kind : (node : Node) (k : ℕ) → node_names (names_of k) node ≡ operator_names (operator_by k node)
-unfolding operator_by names_table
-names-by-kind node =
-    by_kind (λ k. node_names (names_of k) node ≡ operator_names (operator_by k node)) refl refl refl refl refl refl refl refl refl refl refl refl refl refl refl
-    (λ k h. rw (kind-above node k h) (ap (λ n. node_names n node) (get_or-eq_default names_table 0 (past k h))))
-  where
-    past : (k : ℕ) → 14 < k → 15 ≤ k
-    past k h = omega arith
-
--- .. that was read
-pub names-read : (node : Node) (n m : ℕ) → n ≡ names_of node.kind → n ≡ m → node_names m node ≡ operator_names (operator_of node)
-names-read node n m e q = ap (λ j. node_names j node) (sym q ∙ e) ∙ names-by-kind node node.kind
-
-pub names_more : (node : Node) (n : ℕ) → (n ≡ 0 → ⊥) → (n ≡ 1 → ⊥) → (n ≡ 2 → ⊥) → (n ≡ 3 → ⊥) → (n ≡ 4 → ⊥) → (n ≡ 5 → ⊥)
-    → node.right ∷ minus (row_names node) (node.left ∷ []) ≡ node_names n node
-names_more node zero a b c d e f = absurd (a refl)
-names_more node (suc zero) a b c d e f = absurd (b refl)
-names_more node (suc (suc zero)) a b c d e f = absurd (c refl)
-names_more node (suc (suc (suc zero))) a b c d e f = absurd (d refl)
-names_more node (suc (suc (suc (suc zero)))) a b c d e f = absurd (e refl)
-names_more node (suc (suc (suc (suc (suc zero))))) a b c d e f = absurd (f refl)
-names_more node (suc (suc (suc (suc (suc (suc n)))))) a b c d e f = refl
-
--- the kinds 8 to 11 are nested
-pub nested-low : (node : Node) (k : ℕ) → k < 8 → operator_nested (operator_by k node) ≡ false
+-- Unit, Scan, Cross and Each name nothing
+pub names_other : (node : Node) (k : Kind) → (k ≡ Project → ⊥) → (k ≡ Distinct → ⊥) → (k ≡ Sort → ⊥) → (k ≡ Select → ⊥) → (k ≡ Some → ⊥) → (k ≡ Every → ⊥)
+    → (k ≡ Semi → ⊥) → (k ≡ Anti → ⊥) → (k ≡ Fold → ⊥) → (k ≡ Pair → ⊥) → (k ≡ Group → ⊥) → [] ≡ operator_names (operator_by k node)
 unfolding operator_by
-nested-low node =
-    by_kind (λ k. k < 8 → operator_nested (operator_by k node) ≡ false)
-    (λ l. refl) (λ l. refl) (λ l. refl) (λ l. refl) (λ l. refl) (λ l. refl) (λ l. refl) (λ l. refl)
-    (λ l. absurd (omega arith)) (λ l. absurd (omega arith)) (λ l. absurd (omega arith)) (λ l. absurd (omega arith))
-    (λ l. refl) (λ l. refl) (λ l. refl) (λ k h l. absurd (omega arith))
+names_other node Unit a b c d e f g h i j l = refl
+names_other node Scan a b c d e f g h i j l = refl
+names_other node Select a b c d e f g h i j l = absurd (d refl)
+names_other node Project a b c d e f g h i j l = absurd (a refl)
+names_other node Distinct a b c d e f g h i j l = absurd (b refl)
+names_other node Cross a b c d e f g h i j l = refl
+names_other node Semi a b c d e f g h i j l = absurd (g refl)
+names_other node Anti a b c d e f g h i j l = absurd (h refl)
+names_other node Some a b c d e f g h i j l = absurd (e refl)
+names_other node Every a b c d e f g h i j l = absurd (f refl)
+names_other node Fold a b c d e f g h i j l = absurd (i refl)
+names_other node Each a b c d e f g h i j l = refl
+names_other node Pair a b c d e f g h i j l = absurd (j refl)
+names_other node Group a b c d e f g h i j l = absurd (l refl)
+names_other node Sort a b c d e f g h i j l = absurd (c refl)
+names_other node (Other k) a b c d e f g h i j l = refl
 
-pub nested-high : (node : Node) (k : ℕ) → 11 < k → operator_nested (operator_by k node) ≡ false
+-- Some, Every, Fold and Each are nested
+pub not-nested : (node : Node) (k : Kind) → (k ≡ Some → ⊥) → (k ≡ Every → ⊥) → (k ≡ Fold → ⊥) → (k ≡ Each → ⊥) → operator_nested (operator_by k node) ≡ false
 unfolding operator_by
-nested-high node =
-    by_kind (λ k. 11 < k → operator_nested (operator_by k node) ≡ false)
-    (λ l. refl) (λ l. refl) (λ l. refl) (λ l. refl) (λ l. refl) (λ l. refl) (λ l. refl) (λ l. refl)
-    (λ l. absurd (omega arith)) (λ l. absurd (omega arith)) (λ l. absurd (omega arith)) (λ l. absurd (omega arith))
-    (λ l. refl) (λ l. refl) (λ l. refl) (λ k h l. ap operator_nested (kind-above node k h))
+not-nested node =
+    each_kind (λ k. (k ≡ Some → ⊥) → (k ≡ Every → ⊥) → (k ≡ Fold → ⊥) → (k ≡ Each → ⊥) → operator_nested (operator_by k node) ≡ false)
+    (λ a b c d. refl) (λ a b c d. refl) (λ a b c d. refl) (λ a b c d. refl) (λ a b c d. refl) (λ a b c d. refl) (λ a b c d. refl) (λ a b c d. refl)
+    (λ a b c d. absurd (a refl)) (λ a b c d. absurd (b refl)) (λ a b c d. absurd (c refl)) (λ a b c d. absurd (d refl))
+    (λ a b c d. refl) (λ a b c d. refl) (λ a b c d. refl) (λ k a b c d. refl)
 
-pub nested_middle : (node : Node) (k : ℕ) → 8 ≤ k → k ≤ 11 → operator_nested (operator_by k node) ≡ true
+pub is-nested : (node : Node) (k : Kind) → (k ≡ Some) ⊎ ((k ≡ Every) ⊎ ((k ≡ Fold) ⊎ (k ≡ Each))) → operator_nested (operator_by k node) ≡ true
 unfolding operator_by
-nested_middle node =
-    by_kind (λ k. 8 ≤ k → k ≤ 11 → operator_nested (operator_by k node) ≡ true)
-    (λ l m. absurd (omega arith)) (λ l m. absurd (omega arith)) (λ l m. absurd (omega arith)) (λ l m. absurd (omega arith))
-    (λ l m. absurd (omega arith)) (λ l m. absurd (omega arith)) (λ l m. absurd (omega arith)) (λ l m. absurd (omega arith))
-    (λ l m. refl) (λ l m. refl) (λ l m. refl) (λ l m. refl)
-    (λ l m. absurd (omega arith)) (λ l m. absurd (omega arith)) (λ l m. absurd (omega arith)) (λ k h l m. absurd (omega arith))
+is-nested node k =
+    let P : Kind → Type 0 = λ k. operator_nested (operator_by k node) ≡ true in
+    one_of P refl (one_of P refl (one_of P refl (just P refl)))
 
 -- ---- what a node with one child names
 
@@ -280,7 +231,7 @@ module _ (T : Tables) (plan : List ℕ) (i : ℕ) (h : i < nodes_of plan) where
       (λ x a c. absurd (a refl)) (λ u a c. absurd (c refl)) (λ b a c. refl) h
 
 -- .. for the node that was read there, and the number of its children
-module _ (T : Tables) (plan : List ℕ) (i : ℕ) (h : i < nodes_of plan) (node : Node) (e : node ≡ node_at plan i) (n : ℕ) (q : n ≡ kind_entry node.kind 0) where
+module _ (T : Tables) (plan : List ℕ) (i : ℕ) (h : i < nodes_of plan) (node : Node) (e : node ≡ node_at plan i) (n : ℕ) (q : n ≡ kind_entry (kind_row node.kind) 0) where
   pub read-leaf : n ≡ 0 → [] ≡ free T (plan_at plan i)
   read-leaf z = free-leaf T plan i h (sym (children-at plan i node n e q) ∙ z)
 

@@ -1,11 +1,12 @@
 -- Laws of introduced ids and of their flags. Assumes nothing.
-use Rattle.std.specs.Prelude.{if◌then◌else◌}
+use Rattle.std.specs.Prelude.{Option, if◌then◌else◌}
 use Prim.Native.Nat.{ℕ, ◌+◌, ◌-◌, ◌≤◌, ◌<◌}
 use native.Mathlib.Omega.{arith}
 use native.Mathlib.Decide.{ℕ_discrete}
 use mathlib.Core.Path.{◌≡◌, refl, sym, ap, ap₂, ◌∙◌}
 use mathlib.Core.Bool.{Bool, true, false, not, ◌&&◌, ◌||◌, and-false, false≢true, and-eq-true_iff}
 use mathlib.Core.List.{List, [], ◌∷◌, ◌++◌, append_assoc, append-nil}
+use Rattle.std.proofs.Common.{None, Some}
 use lib.ListN.{length, get_or, set, length-set}
 use lib.Seq.{get_or-set_same, get_or-set_other}
 use lib.Dec.{eqb}
@@ -13,13 +14,15 @@ use borrow.Author.Tests.{lt-ltb, le-ltb, eq-eqb, ne_eqb}
 use Rattle.algebra.specs.Lists.{all, member, unique, upward}
 use Rattle.algebra.specs.Plans.{Tables}
 use Rattle.algebra.specs.Refusals.{byte, once, found}
+use Rattle.algebra.proofs.Cells.{eqb-sym}
 use Rattle.algebra.proofs.Lists.{all_append, unique-left}
 use Rattle.reading.specs.Tree.{operator_by, operator_at}
 use Rattle.reading.specs.Flags.{Flags, Marks}
-use Rattle.reading.specs.Nodes.{operator_new, ids_of}
-use Rattle.reading.specs.declared.flags.Marked.{Marked}
+use Rattle.reading.specs.Nodes.{key_of, operator_new, ids_of}
+use Rattle.reading.specs.declared.kinds.Kind.{Kind}
+use Rattle.reading.specs.declared.kinds.Kind.TheVariants.{Scan, Fold, Pair, Group}
 use Rattle.reading.specs.declared.plan.Node.{Node}
-use Rattle.reading.proofs.Operators.{by_kind, kind-above}
+use Rattle.reading.proofs.Operators.{each_kind}
 use Rattle.reading.proofs.Places.{upward_append, upward-more, all-joined, flat_map-joined}
 
 -- ---- members
@@ -41,9 +44,6 @@ member-last k xs x = member-between k xs x [] ∙ rw (append-nil xs)
 pub member-upward : (k n first : ℕ) (ids : List ℕ) → member k (upward (n + 1) first ++ ids) ≡ (eqb k (first + n) || member k (upward n first ++ ids))
 member-upward k n first ids = rw (upward-more, append_assoc) (member-between k (upward n first) (first + n) ids)
 
-eqb-turned : (x y : ℕ) → eqb x y ≡ eqb y x
-eqb-turned x y = elim (ℕ_discrete x y) [ yes e ↦ rw (e) | no e ↦ ne_eqb x y e ∙ sym (ne_eqb y x (λ q. e (sym q))) ]
-
 -- ---- each id once
 
 unique-step : (a b c d : Bool) → (not (c || a) && (b && not d)) ≡ ((not a && b) && not (c || d))
@@ -54,7 +54,7 @@ unique-step false b false d = refl
 
 unique-last : (xs : List ℕ) (x : ℕ) → unique (xs ++ (x ∷ [])) ≡ unique xs && not (member x xs)
 unique-last [] x = refl
-unique-last (y ∷ xs) x = rw (member-last y xs x, unique-last xs x, eqb-turned y x) (unique-step (member y xs) (unique xs) (eqb x y) (member x xs))
+unique-last (y ∷ xs) x = rw (member-last y xs x, unique-last xs x, eqb-sym y x) (unique-step (member y xs) (unique xs) (eqb x y) (member x xs))
 
 -- the last id is new and at most 255, and each of the others stands once
 once_last : (xs : List ℕ) (x : ℕ) → once (xs ++ (x ∷ [])) ≡ (unique xs && not (member x xs)) && (all byte xs && (byte x && true))
@@ -123,21 +123,17 @@ module _ {flags ids : List ℕ} (f : Flags flags ids) (x : ℕ) where
 
 -- ---- marking one run of ids after another
 
-module _ {flags xs : List ℕ} {r : Marked} (m : Marks flags xs r) where
-  pub marks_failed : (ys : List ℕ) → r.ok ≡ false → Marks flags (xs ++ ys) r
-  marks_failed ys e =
-      record {
-        after = λ ids f o.
-            (e ∙ sym (ap once (sym (append_assoc ids xs ys)) ∙ once-stays (ids ++ xs) ys (sym (m.after ids f o).0 ∙ e)), λ t. absurd (false≢true (sym e ∙ t)));
-      }
+pub marks_failed : {flags xs : List ℕ} → Marks flags xs None → (ys : List ℕ) → Marks flags (xs ++ ys) None
+marks_failed {flags} {xs} m ys =
+    record { after = λ ids f o. ap once (sym (append_assoc ids xs ys)) ∙ once-stays (ids ++ xs) ys (m.after ids f o) }
 
-  pub marks_joined : {ys : List ℕ} {q : Marked} → r.ok ≡ true → Marks r.flags ys q → Marks flags (xs ++ ys) q
-  marks_joined {ys} e k =
-      record {
-        after = λ ids f o.
-            let a = m.after ids f o in
-            rw (← append_assoc) (k.after (ids ++ xs) (a.1 e) (sym a.0 ∙ e));
-      }
+pub marks_joined : {flags xs marks ys : List ℕ} {q : Option (List ℕ)} → Marks flags xs (Some marks) → Marks marks ys q → Marks flags (xs ++ ys) q
+marks_joined {flags} {xs} m k =
+    record {
+      after = λ ids f o.
+          let a = m.after ids f o in
+          rw (← append_assoc) (k.after (ids ++ xs) a.1 a.0);
+    }
 
 -- ---- the ids of the first nodes
 
@@ -161,20 +157,27 @@ module _ (T : Tables) (plan : List ℕ) where
 
 -- ---- by kind
 
--- the kinds 1, 10, 12 and 13 alone introduce ids
-pub new_none : (T : Tables) (node : Node) (k : ℕ) → (k ≡ 1 → ⊥) → (k ≡ 10 → ⊥) → (k ≡ 12 → ⊥) → (k ≡ 13 → ⊥) → operator_new T (operator_by k node) ≡ []
+-- Scan, Fold, Pair and Group alone introduce ids
+pub new_none : (T : Tables) (node : Node) (k : Kind) → (k ≡ Scan → ⊥) → (k ≡ Fold → ⊥) → (k ≡ Pair → ⊥) → (k ≡ Group → ⊥)
+    → operator_new T (operator_by k node) ≡ key_of k node ++ []
 unfolding operator_by
 new_none T node =
-    by_kind (λ k. (k ≡ 1 → ⊥) → (k ≡ 10 → ⊥) → (k ≡ 12 → ⊥) → (k ≡ 13 → ⊥) → operator_new T (operator_by k node) ≡ [])
+    each_kind (λ k. (k ≡ Scan → ⊥) → (k ≡ Fold → ⊥) → (k ≡ Pair → ⊥) → (k ≡ Group → ⊥) → operator_new T (operator_by k node) ≡ key_of k node ++ [])
     (λ a b c d. refl) (λ a b c d. absurd (a refl)) (λ a b c d. refl) (λ a b c d. refl) (λ a b c d. refl) (λ a b c d. refl) (λ a b c d. refl) (λ a b c d. refl)
     (λ a b c d. refl) (λ a b c d. refl) (λ a b c d. absurd (b refl)) (λ a b c d. refl) (λ a b c d. absurd (c refl)) (λ a b c d. absurd (d refl)) (λ a b c d. refl)
-    (λ k h a b c d. ap (operator_new T) (kind-above node k h))
+    (λ k a b c d. refl)
+
+-- a Group alone introduces the id in byte 3
+pub key_none : (node : Node) (k : Kind) → (k ≡ Group → ⊥) → key_of k node ≡ []
+key_none node =
+    each_kind (λ k. (k ≡ Group → ⊥) → key_of k node ≡ [])
+    (λ a. refl) (λ a. refl) (λ a. refl) (λ a. refl) (λ a. refl) (λ a. refl) (λ a. refl) (λ a. refl)
+    (λ a. refl) (λ a. refl) (λ a. refl) (λ a. refl) (λ a. refl) (λ a. absurd (a refl)) (λ a. refl) (λ k a. refl)
 
 -- only a Scan needs a table
-pub found-other : (T : Tables) (node : Node) (k : ℕ) → (k ≡ 1 → ⊥) → found T (operator_by k node) ≡ true
+pub found-other : (T : Tables) (node : Node) (k : Kind) → (k ≡ Scan → ⊥) → found T (operator_by k node) ≡ true
 unfolding operator_by
 found-other T node =
-    by_kind (λ k. (k ≡ 1 → ⊥) → found T (operator_by k node) ≡ true)
+    each_kind (λ k. (k ≡ Scan → ⊥) → found T (operator_by k node) ≡ true)
     (λ a. refl) (λ a. absurd (a refl)) (λ a. refl) (λ a. refl) (λ a. refl) (λ a. refl) (λ a. refl) (λ a. refl)
-    (λ a. refl) (λ a. refl) (λ a. refl) (λ a. refl) (λ a. refl) (λ a. refl) (λ a. refl)
-    (λ k h a. ap (found T) (kind-above node k h))
+    (λ a. refl) (λ a. refl) (λ a. refl) (λ a. refl) (λ a. refl) (λ a. refl) (λ a. refl) (λ k a. refl)

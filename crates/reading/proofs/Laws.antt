@@ -1,17 +1,18 @@
 -- Laws of the definitions of specs/, over plain lists and numbers, which the functions' proofs cite. Assumes nothing.
-use Rattle.std.specs.Prelude.{if◌then◌else◌}
+use Rattle.std.specs.Prelude.{if◌then◌else◌, Result, Ok, Err}
 use Prim.Native.Nat.{ℕ, zero, suc, ◌+◌, ◌-◌, ◌/◌, ◌≤◌, ◌<◌}
 use native.Mathlib.Omega.{arith}
 use native.Mathlib.Nat.{le_refl}
 use native.Mathlib.Decide.{dec_lt}
-use native.Mathlib.Numerals.{add-one}
 use mathlib.Core.Path.{◌≡◌, refl, sym, ap, ◌∙◌}
 use mathlib.Core.Bool.{Bool, true, false, ◌&&◌, and-false, not, false≢true}
 use mathlib.Core.List.{List, [], ◌∷◌}
-use lib.ListN.{length, get_or, take, drop, length-drop, drop_of_length-le}
+use lib.ListN.{length, take, drop, length-drop}
 use lib.Dec.{ltb, eqb}
-use lib.Seq.{take_all, drop-cons, drop-drop}
+use lib.Seq.{take_all, drop-drop}
 use borrow.Author.Tests.{eqb-true, eq-eqb, ne_eqb}
+use Rattle.std.specs.Cmp.Lexicographic.{pointwise}
+use Rattle.algebra.proofs.Cells.{eqb-sym}
 use Rattle.reading.specs.Bytes.{all_below}
 use borrow.Author.Tests.{lt-ltb, le-ltb, ltb-false, not-false}
 use Rattle.reading.specs.Bytes.{starts_with}
@@ -19,10 +20,18 @@ use Rattle.reading.specs.Versions.{cell_size}
 use Rattle.reading.specs.TableSet.{table_mark, table_version, size_allowed, cell_bytes, cells_of, cell_at, cell_allowed, cells_allowed, read_table, read_from, read_set_as, read_set, after_table, table_from}
 use Rattle.reading.specs.declared.version.Version.{Version}
 use Rattle.reading.specs.declared.version.Version.TheVariants.{Second}
-use Rattle.reading.specs.declared.set.SetRead.TheVariants.{Holds, Refused}
-use Rattle.reading.specs.declared.set.TableRead.{TableRead}
-use Rattle.reading.specs.declared.set.TableRead.TheVariants.{Whole, Bad}
+use Rattle.reading.specs.declared.refusal.Refusal.{Refusal}
+use Rattle.reading.specs.declared.refusal.Refusal.TheVariants.{TableShort, TableMark, TableSize, CellCode, SetLong}
 use Rattle.reading.proofs.VersionLaws.{marked-version}
+
+-- ---- results
+
+-- an error is no value
+pub err-ok : {A E C : Type 0} (r : E) (x : A) → ◌≡◌ {A = Result A E} (Err r) (Ok x) → C
+err-ok r x e = let z : ◌≡◌ {A = ℕ} 0 1 = cc in absurd (omega arith)
+
+pub ok-is : {A E : Type 0} (x y : A) → ◌≡◌ {A = Result A E} (Ok x) (Ok y) → x ≡ y
+ok-is x y e = cc
 
 -- ---- parts of a list
 
@@ -40,21 +49,12 @@ cells_are_lem s at n e =
 
 -- ---- a mark
 
-pub starts_end : (mark s : List ℕ) (i : ℕ) → length mark ≤ i → starts_with (drop i mark) (drop i s) ≡ true
+-- as the library's `starts_with` compares
+pub starts_same : (mark s : List ℕ) → pointwise eqb mark (take (length mark) s) ≡ starts_with mark s
 unfolding starts_with
-starts_end mark s i h = rw (drop_of_length-le mark h)
-
-pub starts_short : (mark s : List ℕ) (i : ℕ) → i < length mark → length s ≤ i → starts_with (drop i mark) (drop i s) ≡ false
-unfolding starts_with
-starts_short mark s i h k = rw (drop-cons mark i 0 h, drop_of_length-le s k)
-
-pub starts_differ : (mark s : List ℕ) (i : ℕ) → i < length mark → i < length s → (get_or s i 0 ≡ get_or mark i 0 → ⊥) → starts_with (drop i mark) (drop i s) ≡ false
-unfolding starts_with
-starts_differ mark s i h k e = rw (drop-cons mark i 0 h, drop-cons s i 0 k, ne_eqb _ _ e)
-
-pub starts_more : (mark s : List ℕ) (i : ℕ) → i < length mark → i < length s → get_or s i 0 ≡ get_or mark i 0 → starts_with (drop i mark) (drop i s) ≡ starts_with (drop (i + 1) mark) (drop (i + 1) s)
-unfolding starts_with
-starts_more mark s i h k e = rw (drop-cons mark i 0 h, drop-cons s i 0 k, eq-eqb _ _ e, add-one i)
+starts_same [] s = refl
+starts_same (m ∷ mark) [] = refl
+starts_same (m ∷ mark) (b ∷ s) = rw (eqb-sym m b, starts_same mark s)
 
 -- ---- a test of every number below a bound
 
@@ -75,46 +75,40 @@ all-fails (suc n) p k h e = last (dec_lt k n) (λ l. all-fails n p k l e)
 -- ---- reading one table: a law for each way out
 
 module _ (v : Version) (t : List ℕ) where
-  pub read_short : length t < 8 → read_table v t ≡ Bad 1
+  pub read_short : length t < 8 → read_table v t ≡ Err TableShort
   unfolding read_table
   read_short h = rw (lt-ltb _ _ h)
 
-  pub read-mark : 8 ≤ length t → starts_with (table_mark v) t ≡ false → read_table v t ≡ Bad 2
+  pub read-mark : 8 ≤ length t → starts_with (table_mark v) t ≡ false → read_table v t ≡ Err TableMark
   unfolding read_table
   read-mark h m = rw (le-ltb _ _ h, m)
 
-  pub read-size : 8 ≤ length t → starts_with (table_mark v) t ≡ true → size_allowed t ≡ false → read_table v t ≡ Bad 3
+  pub read-size : 8 ≤ length t → starts_with (table_mark v) t ≡ true → size_allowed t ≡ false → read_table v t ≡ Err TableSize
   unfolding read_table
   read-size h m z = rw (le-ltb _ _ h, m, z)
 
-  pub read-cut : 8 ≤ length t → starts_with (table_mark v) t ≡ true → size_allowed t ≡ true → length t < 8 + cell_bytes t → read_table v t ≡ Bad 1
+  pub read-cut : 8 ≤ length t → starts_with (table_mark v) t ≡ true → size_allowed t ≡ true → length t < 8 + cell_bytes t → read_table v t ≡ Err TableShort
   unfolding read_table
   read-cut h m z l = rw (le-ltb _ _ h, m, z, lt-ltb _ _ l)
 
-  pub read-code : 8 ≤ length t → starts_with (table_mark v) t ≡ true → size_allowed t ≡ true → 8 + cell_bytes t ≤ length t → cells_allowed v (cells_of t) ≡ false → read_table v t ≡ Bad 4
+  pub read-code : 8 ≤ length t → starts_with (table_mark v) t ≡ true → size_allowed t ≡ true → 8 + cell_bytes t ≤ length t → cells_allowed v (cells_of t) ≡ false → read_table v t ≡ Err CellCode
   unfolding read_table
   read-code h m z l a = rw (le-ltb _ _ h, m, z, le-ltb _ _ l, a)
 
-  pub read_whole : 8 ≤ length t → starts_with (table_mark v) t ≡ true → size_allowed t ≡ true → 8 + cell_bytes t ≤ length t → cells_allowed v (cells_of t) ≡ true → read_table v t ≡ Whole (8 + cell_bytes t)
+  pub read_whole : 8 ≤ length t → starts_with (table_mark v) t ≡ true → size_allowed t ≡ true → 8 + cell_bytes t ≤ length t → cells_allowed v (cells_of t) ≡ true → read_table v t ≡ Ok (8 + cell_bytes t)
   unfolding read_table
   read_whole h m z l a = rw (le-ltb _ _ h, m, z, le-ltb _ _ l, a)
 
-bad_whole : {C : Type 0} (k n : ℕ) → Bad k ≡ Whole n → C
-bad_whole k n e = let z : ◌≡◌ {A = ℕ} 0 1 = cc in absurd (omega arith)
-
-whole_is : (m n : ℕ) → Whole m ≡ Whole n → m ≡ n
-whole_is m n e = cc
-
--- where five tests lead to `Whole`, each of them failed
+-- where five tests lead to `Ok`, each of them failed
 tests_failed : (b₁ b₂ b₃ b₄ b₅ : Bool) (m n : ℕ)
-    → (if b₁ then Bad 1 else if b₂ then Bad 2 else if b₃ then Bad 3 else if b₄ then Bad 1 else if b₅ then Bad 4 else Whole m) ≡ Whole n
+    → (if b₁ then Err TableShort else if b₂ then Err TableMark else if b₃ then Err TableSize else if b₄ then Err TableShort else if b₅ then Err CellCode else Ok m) ≡ Ok n
     → (b₁ ≡ false) × (b₂ ≡ false) × (b₃ ≡ false) × (b₄ ≡ false) × (b₅ ≡ false) × (m ≡ n)
-tests_failed true b₂ b₃ b₄ b₅ m n e = bad_whole 1 n e
-tests_failed false true b₃ b₄ b₅ m n e = bad_whole 2 n e
-tests_failed false false true b₄ b₅ m n e = bad_whole 3 n e
-tests_failed false false false true b₅ m n e = bad_whole 1 n e
-tests_failed false false false false true m n e = bad_whole 4 n e
-tests_failed false false false false false m n e = (refl, refl, refl, refl, refl, whole_is m n e)
+tests_failed true b₂ b₃ b₄ b₅ m n e = err-ok TableShort n e
+tests_failed false true b₃ b₄ b₅ m n e = err-ok TableMark n e
+tests_failed false false true b₄ b₅ m n e = err-ok TableSize n e
+tests_failed false false false true b₅ m n e = err-ok TableShort n e
+tests_failed false false false false true m n e = err-ok CellCode n e
+tests_failed false false false false false m n e = (refl, refl, refl, refl, refl, ok-is m n e)
 
 -- what is known of a table that was read as a version's
 pub record WholeTable (v : Version) (t : List ℕ) (n : ℕ) : Type 0 where
@@ -124,7 +118,7 @@ pub record WholeTable (v : Version) (t : List ℕ) (n : ℕ) : Type 0 where
   pub fits : 8 + cell_bytes t ≤ length t
   pub codes : cells_allowed v (cells_of t) ≡ true
 
-pub whole-table : (v : Version) (t : List ℕ) (n : ℕ) → read_table v t ≡ Whole n → WholeTable v t n
+pub whole-table : (v : Version) (t : List ℕ) (n : ℕ) → read_table v t ≡ Ok n → WholeTable v t n
 unfolding read_table
 whole-table v t n e =
     let f = tests_failed (ltb (length t) 8) (not (starts_with (table_mark v) t)) (not (size_allowed t)) (ltb (length t) (8 + cell_bytes t)) (not (cells_allowed v (cells_of t))) (8 + cell_bytes t) n e in
@@ -138,25 +132,25 @@ whole-table v t n e =
 
 -- ---- reading the set: a law for each step
 
-pub from_end : (v : Version) (left found : ℕ) (s : List ℕ) → length s ≡ 0 → read_from v left found s ≡ Holds found
+pub from_end : (v : Version) (left found : ℕ) (s : List ℕ) → length s ≡ 0 → read_from v left found s ≡ Ok found
 unfolding read_from
 from_end v zero found s h = rw (eq-eqb _ _ h)
 from_end v (suc left) found s h = rw (eq-eqb _ _ h)
 
-pub from-five : (v : Version) (found : ℕ) (s : List ℕ) → (length s ≡ 0 → ⊥) → read_from v 0 found s ≡ Refused 5
+pub from-five : (v : Version) (found : ℕ) (s : List ℕ) → (length s ≡ 0 → ⊥) → read_from v 0 found s ≡ Err SetLong
 unfolding read_from
 from-five v found s h = rw (ne_eqb _ _ h)
 
-pub from_bad : (v : Version) (left found k : ℕ) (s : List ℕ) → (length s ≡ 0 → ⊥) → read_table v s ≡ Bad k → read_from v (suc left) found s ≡ Refused k
+pub from_bad : (v : Version) (left found : ℕ) (k : Refusal) (s : List ℕ) → (length s ≡ 0 → ⊥) → read_table v s ≡ Err k → read_from v (suc left) found s ≡ Err k
 unfolding read_from
 from_bad v left found k s h e = rw (ne_eqb _ _ h, e)
 
-pub from-whole : (v : Version) (left found n : ℕ) (s : List ℕ) → (length s ≡ 0 → ⊥) → read_table v s ≡ Whole n → read_from v (suc left) found s ≡ read_from v left (found + 1) (drop n s)
+pub from-whole : (v : Version) (left found n : ℕ) (s : List ℕ) → (length s ≡ 0 → ⊥) → read_table v s ≡ Ok n → read_from v (suc left) found s ≡ read_from v left (found + 1) (drop n s)
 unfolding read_from
 from-whole v left found n s h e = rw (ne_eqb _ _ h, e)
 
 -- the place after a table that was read, and what follows it
-module _ (v : Version) (s : List ℕ) (at found n : ℕ) (h : at < length s) (f : found < 8) (e : read_table v (drop at s) ≡ Whole n) where
+module _ (v : Version) (s : List ℕ) (at found n : ℕ) (h : at < length s) (f : found < 8) (e : read_table v (drop at s) ≡ Ok n) where
   pub next_place : at + n ≤ length s
   next_place = let w = whole-table v (drop at s) n e in omega (arith, length-drop at s, w.bytes, w.fits)
 
@@ -165,8 +159,8 @@ module _ (v : Version) (s : List ℕ) (at found n : ℕ) (h : at < length s) (f 
       let q : 8 - found ≡ suc (8 - (found + 1)) = omega arith in
       rw (q, from-whole v (8 - (found + 1)) found n (drop at s) (λ z. omega (arith, length-drop at s)) e, drop-drop n at s)
 
-pub refused-table : (v : Version) (s : List ℕ) (at found k : ℕ) → at < length s → found < 8 → read_table v (drop at s) ≡ Bad k
-    → read_from v (8 - found) found (drop at s) ≡ Refused k
+pub refused-table : (v : Version) (s : List ℕ) (at found : ℕ) (k : Refusal) → at < length s → found < 8 → read_table v (drop at s) ≡ Err k
+    → read_from v (8 - found) found (drop at s) ≡ Err k
 refused-table v s at found k h f e =
     let q : 8 - found ≡ suc (8 - (found + 1)) = omega arith in
     rw (q, from_bad v (8 - (found + 1)) found k (drop at s) (λ z. omega (arith, length-drop at s)) e)
@@ -179,38 +173,32 @@ table-next t s = refl
 
 -- ---- what an upper layer may use of a set that was read
 
-refused-tables : {C : Type 0} (k m : ℕ) → Refused k ≡ Holds m → C
-refused-tables k m e = let z : ◌≡◌ {A = ℕ} 0 1 = cc in absurd (omega arith)
-
-tables-is : (k m : ℕ) → Holds k ≡ Holds m → k ≡ m
-tables-is k m e = cc
-
 -- a choice whose outcome is known: by which way it came
 if_came : {A C : Type 0} (b : Bool) (x y z : A) → (if b then x else y) ≡ z → (b ≡ true → x ≡ z → C) → (b ≡ false → y ≡ z → C) → C
 if_came true x y z e f g = f refl e
 if_came false x y z e f g = g refl e
 
 -- each table of a set that was read is whole
-accepted-from : (v : Version) (left found : ℕ) (s : List ℕ) (m t : ℕ) → read_from v left found s ≡ Holds m → found + t < m
-    → (n : ℕ) × (read_table v (table_from t s) ≡ Whole n)
+accepted-from : (v : Version) (left found : ℕ) (s : List ℕ) (m t : ℕ) → read_from v left found s ≡ Ok m → found + t < m
+    → (n : ℕ) × (read_table v (table_from t s) ≡ Ok n)
 unfolding read_from table_from
 accepted-from v zero found s m t e h =
     if_came (eqb (length s) 0) _ _ _ e
-    (λ _ q. absurd (omega (arith, tables-is found m q)))
-    (λ _ q. refused-tables 5 m q)
+    (λ _ q. absurd (omega (arith, ok-is found m q)))
+    (λ _ q. err-ok SetLong m q)
 accepted-from v (suc left) found s m t e h =
     if_came (eqb (length s) 0) _ _ _ e
-    (λ _ q. absurd (omega (arith, tables-is found m q)))
+    (λ _ q. absurd (omega (arith, ok-is found m q)))
     (λ _ q. by (read_table v s) refl q t h (λ n t' p l. accepted-from v left (found + 1) (drop n s) m t' p l))
   where
-    by : (r : TableRead) → read_table v s ≡ r → after_table r (λ bytes. read_from v left (found + 1) (drop bytes s)) ≡ Holds m → (t : ℕ) → found + t < m
-        → ((n t' : ℕ) → read_from v left (found + 1) (drop n s) ≡ Holds m → found + 1 + t' < m → (x : ℕ) × (read_table v (table_from t' (drop n s)) ≡ Whole x))
-        → (x : ℕ) × (read_table v (table_from t s) ≡ Whole x)
-    by (Bad k) w q t h go = refused-tables k m q
-    by (Whole n) w q zero h go = (n, w)
-    by (Whole n) w q (suc t) h go = rw (← (whole-table v s n w).bytes) (go n t q (omega arith))
+    by : (r : Result ℕ Refusal) → read_table v s ≡ r → after_table r (λ bytes. read_from v left (found + 1) (drop bytes s)) ≡ Ok m → (t : ℕ) → found + t < m
+        → ((n t' : ℕ) → read_from v left (found + 1) (drop n s) ≡ Ok m → found + 1 + t' < m → (x : ℕ) × (read_table v (table_from t' (drop n s)) ≡ Ok x))
+        → (x : ℕ) × (read_table v (table_from t s) ≡ Ok x)
+    by (Err k) w q t h go = err-ok k m q
+    by (Ok n) w q zero h go = (n, w)
+    by (Ok n) w q (suc t) h go = rw (← (whole-table v s n w).bytes) (go n t q (omega arith))
 
-pub accepted-table : (v : Version) (s : List ℕ) (m t : ℕ) → read_set_as v s ≡ Holds m → t < m → WholeTable v (table_from t s) (8 + cell_bytes (table_from t s))
+pub accepted-table : (v : Version) (s : List ℕ) (m t : ℕ) → read_set_as v s ≡ Ok m → t < m → WholeTable v (table_from t s) (8 + cell_bytes (table_from t s))
 unfolding read_set_as
 accepted-table v s m t e h =
     let a = accepted-from v 8 0 s m t e (omega arith) in
@@ -232,7 +220,7 @@ all-at (suc n) p e k h = last (dec_lt k n) (all_below n p) (p n) refl refl e (λ
     last d false b pa pb q go = absurd (false≢true q)
 
 -- each word of a table that was read is blank, off scale or a number, also past the last cell
-pub accepted-cell : (v : Version) (s : List ℕ) (m t i : ℕ) → read_set_as v s ≡ Holds m → t < m → cell_allowed v (cell_at v (cells_of (table_from t s)) i) ≡ true
+pub accepted-cell : (v : Version) (s : List ℕ) (m t i : ℕ) → read_set_as v s ≡ Ok m → t < m → cell_allowed v (cell_at v (cells_of (table_from t s)) i) ≡ true
 unfolding cells_allowed
 accepted-cell v s m t i e h = at (dec_lt i (length (cells_of (table_from t s)) / cell_size v))
   where
@@ -241,7 +229,7 @@ accepted-cell v s m t i e h = at (dec_lt i (length (cells_of (table_from t s)) /
     at (no l) = let k : length (cells_of (table_from t s)) / cell_size v ≤ i = omega arith in rw (le-ltb _ _ k)
 
 -- each table of a set that is read as version v has that version
-pub accepted-version : (v : Version) (s : List ℕ) (m t : ℕ) → read_set_as v s ≡ Holds m → t < m → table_version (table_from t s) ≡ v
+pub accepted-version : (v : Version) (s : List ℕ) (m t : ℕ) → read_set_as v s ≡ Ok m → t < m → table_version (table_from t s) ≡ v
 accepted-version v s m t e h = (accepted-table v s m t e h).version
 
 -- nothing follows the last table
@@ -251,41 +239,41 @@ past_end zero [] h = refl
 past_end zero (x ∷ s) h = absurd (omega arith)
 past_end (suc t) s h = past_end t (drop (8 + cell_bytes s) s) (length-drop (8 + cell_bytes s) s ∙ omega arith)
 
-found-most : (v : Version) (left found : ℕ) (s : List ℕ) (m : ℕ) → read_from v left found s ≡ Holds m → found ≤ m
+found-most : (v : Version) (left found : ℕ) (s : List ℕ) (m : ℕ) → read_from v left found s ≡ Ok m → found ≤ m
 unfolding read_from
 found-most v zero found s m e =
     if_came (eqb (length s) 0) _ _ _ e
-    (λ _ q. omega (arith, tables-is found m q))
-    (λ _ q. refused-tables 5 m q)
+    (λ _ q. omega (arith, ok-is found m q))
+    (λ _ q. err-ok SetLong m q)
 found-most v (suc left) found s m e =
     if_came (eqb (length s) 0) _ _ _ e
-    (λ _ q. omega (arith, tables-is found m q))
+    (λ _ q. omega (arith, ok-is found m q))
     (λ _ q. by (read_table v s) q (λ n p. found-most v left (found + 1) (drop n s) m p))
   where
-    by : (r : TableRead) → after_table r (λ bytes. read_from v left (found + 1) (drop bytes s)) ≡ Holds m
-        → ((n : ℕ) → read_from v left (found + 1) (drop n s) ≡ Holds m → found + 1 ≤ m) → found ≤ m
-    by (Bad k) q go = refused-tables k m q
-    by (Whole n) q go = omega (arith, go n q)
+    by : (r : Result ℕ Refusal) → after_table r (λ bytes. read_from v left (found + 1) (drop bytes s)) ≡ Ok m
+        → ((n : ℕ) → read_from v left (found + 1) (drop n s) ≡ Ok m → found + 1 ≤ m) → found ≤ m
+    by (Err k) q go = err-ok k m q
+    by (Ok n) q go = omega (arith, go n q)
 
-past-from : (v : Version) (left found : ℕ) (s : List ℕ) (m t : ℕ) → read_from v left found s ≡ Holds m → m ≤ found + t → table_from t s ≡ []
+past-from : (v : Version) (left found : ℕ) (s : List ℕ) (m t : ℕ) → read_from v left found s ≡ Ok m → m ≤ found + t → table_from t s ≡ []
 unfolding read_from table_from
 past-from v zero found s m t e h =
     if_came (eqb (length s) 0) _ _ _ e
     (λ z _. past_end t s (eqb-true _ _ z))
-    (λ _ q. refused-tables 5 m q)
+    (λ _ q. err-ok SetLong m q)
 past-from v (suc left) found s m t e h =
     if_came (eqb (length s) 0) _ _ _ e
     (λ z _. past_end t s (eqb-true _ _ z))
     (λ _ q. by (read_table v s) refl q t h (λ n t' p l. past-from v left (found + 1) (drop n s) m t' p l))
   where
-    by : (r : TableRead) → read_table v s ≡ r → after_table r (λ bytes. read_from v left (found + 1) (drop bytes s)) ≡ Holds m → (t : ℕ) → m ≤ found + t
-        → ((n t' : ℕ) → read_from v left (found + 1) (drop n s) ≡ Holds m → m ≤ found + 1 + t' → table_from t' (drop n s) ≡ []) → table_from t s ≡ []
-    by (Bad k) w q t h go = refused-tables k m q
-    by (Whole n) w q zero h go = absurd (omega (arith, found-most v left (found + 1) (drop n s) m q))
-    by (Whole n) w q (suc t) h go = rw (← (whole-table v s n w).bytes) (go n t q (omega arith))
+    by : (r : Result ℕ Refusal) → read_table v s ≡ r → after_table r (λ bytes. read_from v left (found + 1) (drop bytes s)) ≡ Ok m → (t : ℕ) → m ≤ found + t
+        → ((n t' : ℕ) → read_from v left (found + 1) (drop n s) ≡ Ok m → m ≤ found + 1 + t' → table_from t' (drop n s) ≡ []) → table_from t s ≡ []
+    by (Err k) w q t h go = err-ok k m q
+    by (Ok n) w q zero h go = absurd (omega (arith, found-most v left (found + 1) (drop n s) m q))
+    by (Ok n) w q (suc t) h go = rw (← (whole-table v s n w).bytes) (go n t q (omega arith))
 
 -- every table of a set that is read as version 2 is looked at as version 2, also past the last one
-pub second-version : (s : List ℕ) (m t : ℕ) → read_set s ≡ Holds m → table_version (table_from t s) ≡ Second
+pub second-version : (s : List ℕ) (m t : ℕ) → read_set s ≡ Ok m → table_version (table_from t s) ≡ Second
 unfolding read_set_as
 second-version s m t e = elim (dec_lt t m) [
   | yes l ↦ accepted-version Second s m t e l

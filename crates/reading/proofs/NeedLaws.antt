@@ -1,46 +1,39 @@
 -- Laws of the cells that nodes count, their bounds and columns known up to a cap. Assumes nothing.
-use Rattle.std.specs.Prelude.{if◌then◌else◌}
 use Prim.Native.Nat.{ℕ, ◌+◌, ◌*◌, ◌≤◌, ◌<◌, min}
 use mathlib.Core.Bool.{Bool, true, false, and-eq-true_iff}
 use mathlib.Core.Path.{◌≡◌, refl, ap₂, sym, ◌∙◌}
 use mathlib.Core.List.{List, [], ◌∷◌, map}
 use native.Mathlib.Omega.{arith}
 use native.Mathlib.Nat.{mul-le-mul}
-use lib.Dec.{ltb}
 use lib.ListN.{length}
-use borrow.Author.Tests.{le-ltb}
 use Rattle.algebra.specs.Lists.{all, total}
 use Rattle.algebra.specs.Plans.{Tables, Plan, columns}
 use Rattle.algebra.specs.Places.{root, subtrees}
 use Rattle.algebra.specs.Refusals.{bound, width, has_region, counted_rows, share, part, narrow, low}
 use Rattle.algebra.proofs.Places.{subtrees-length}
 use Rattle.algebra.proofs.Needs.{total-append}
-use Rattle.reading.specs.Plan.{node_at, nodes_of, kind_entry}
+use Rattle.reading.specs.Plan.{node_at, nodes_of, kind_entry, kind_row}
 use Rattle.reading.specs.Tree.{operator_by, plan_at}
 use Rattle.reading.specs.Nodes.{arity, capped_share, capped_part}
+use Rattle.reading.specs.declared.kinds.Kind.{Kind}
+use Rattle.reading.specs.declared.kinds.Kind.TheVariants.{Select, Project, Semi, Anti, Some, Every}
 use Rattle.reading.specs.declared.plan.Node.{Node}
-use Rattle.reading.proofs.Operators.{by_kind, kind-above}
+use Rattle.reading.proofs.Operators.{each_kind}
 use Rattle.reading.proofs.Trees.{plan_past, plan_case, first_tree, second_tree, second_at}
 use Rattle.reading.proofs.Ends.{end_at, children-at}
 use Rattle.reading.proofs.TreeNumbers.{capped_exact}
 use Rattle.reading.proofs.Places.{size-most}
 
--- ---- the kinds without a region: 2, 3 and 6 to 9
+-- ---- the kinds without a region: Select, Project, Semi, Anti, Some and Every
 
--- whether a kind has one, test by test as the code asks
-abbrev region_kind : ℕ → Bool
-region_kind k =
-    if ltb k 2 then true else
-    if ltb k 4 then false else
-    if ltb k 6 then true else
-    if ltb k 10 then false else
-    true
-
-pub region_by : (node : Node) (k : ℕ) → region_kind k ≡ has_region (operator_by k node)
+pub region_other : (node : Node) (k : Kind) → (k ≡ Select → ⊥) → (k ≡ Project → ⊥) → (k ≡ Semi → ⊥) → (k ≡ Anti → ⊥) → (k ≡ Some → ⊥) → (k ≡ Every → ⊥)
+    → true ≡ has_region (operator_by k node)
 unfolding operator_by
-region_by node k =
-    by_kind (λ k. region_kind k ≡ has_region (operator_by k node)) refl refl refl refl refl refl refl refl refl refl refl refl refl refl refl
-    (λ k h. rw (kind-above node k h, le-ltb k 2 (omega arith), le-ltb k 4 (omega arith), le-ltb k 6 (omega arith), le-ltb k 10 (omega arith))) k
+region_other node =
+    each_kind (λ k. (k ≡ Select → ⊥) → (k ≡ Project → ⊥) → (k ≡ Semi → ⊥) → (k ≡ Anti → ⊥) → (k ≡ Some → ⊥) → (k ≡ Every → ⊥) → true ≡ has_region (operator_by k node))
+    (λ a b c d e f. refl) (λ a b c d e f. refl) (λ a b c d e f. absurd (a refl)) (λ a b c d e f. absurd (b refl)) (λ a b c d e f. refl) (λ a b c d e f. refl)
+    (λ a b c d e f. absurd (c refl)) (λ a b c d e f. absurd (d refl)) (λ a b c d e f. absurd (e refl)) (λ a b c d e f. absurd (f refl))
+    (λ a b c d e f. refl) (λ a b c d e f. refl) (λ a b c d e f. refl) (λ a b c d e f. refl) (λ a b c d e f. refl) (λ k a b c d e f. refl)
 
 -- ---- no more than the caps
 
@@ -87,7 +80,7 @@ module _ (T : Tables) where
     past-part h = rw (plan_past plan i h)
 
     -- the node that was read at the place, the number of its children, and what it counts
-    module _ (h : i < nodes_of plan) (node : Node) (e : node ≡ node_at plan i) (children : ℕ) (q : children ≡ kind_entry node.kind 0) (own : ℕ) (s : own ≡ capped_share T (plan_at plan i)) where
+    module _ (h : i < nodes_of plan) (node : Node) (e : node ≡ node_at plan i) (children : ℕ) (q : children ≡ kind_entry (kind_row node.kind) 0) (own : ℕ) (s : own ≡ capped_share T (plan_at plan i)) where
       pub leaf-part : children ≡ 0 → own ≡ capped_part T (plan_at plan i)
       unfolding subtrees
       leaf-part k =

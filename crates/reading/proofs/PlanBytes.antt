@@ -1,6 +1,6 @@
 -- A plan that is read and whole is the encoding of its tree, byte for byte; and the encoding of a tree is read, whole, and that tree's.
 -- Assumes nothing.
-use Rattle.std.specs.Prelude.{if◌then◌else◌}
+use Rattle.std.specs.Prelude.{if◌then◌else◌, Ok, Err}
 use Prim.Native.Nat.{ℕ, zero, suc, ◌+◌, ◌*◌, ◌≤◌, ◌<◌}
 use native.Mathlib.Omega.{arith}
 use native.Mathlib.Nat.{mul-zero, mul-suc}
@@ -28,7 +28,7 @@ use Rattle.reading.specs.Encoding.{node_bytes_as, node_bytes, plan_bytes_as, pla
 use Rattle.reading.specs.Check.{plan_number, or_next, tree_number, plan_refusal_as, plan_refusal}
 use Rattle.reading.specs.declared.version.Version.{Version}
 use Rattle.reading.specs.declared.version.Version.TheVariants.{Second}
-use Rattle.reading.specs.declared.plan.PlanRead.TheVariants.{Nodes, Refused}
+use Rattle.reading.specs.declared.refusal.Refusal.TheVariants.{PlanLength, PlanMark, NodeCount, NodeField}
 use Rattle.reading.proofs.VersionLaws.{marked-version, starts_take, number_small, node_next, node_room, node_least}
 use Rattle.reading.proofs.Laws.{all-at, all-holds}
 use Rattle.reading.proofs.Places.{whole-size, whole-flatten, flatten-whole, flat_map-map, all-joined, all-upward}
@@ -50,7 +50,7 @@ abbrev pub PlanKnown : List ℕ → Type 0
 PlanKnown plan = PlanKnownAs Second plan
 
 numbers : (b₁ b₂ b₃ b₄ b₅ : Bool) (m : ℕ)
-    → plan_number (if b₁ then Refused 6 else if b₂ then Refused 7 else if b₃ then Refused 8 else if b₄ then Refused 6 else if b₅ then Refused 9 else Nodes m) ≡ 0
+    → plan_number (if b₁ then Err PlanLength else if b₂ then Err PlanMark else if b₃ then Err NodeCount else if b₄ then Err PlanLength else if b₅ then Err NodeField else Ok m) ≡ 0
     → (b₂ ≡ false) × (b₃ ≡ false) × (b₄ ≡ false) × (b₅ ≡ false)
 numbers true b₂ b₃ b₄ b₅ m e = absurd (omega arith)
 numbers false true b₃ b₄ b₅ m e = absurd (omega arith)
@@ -173,15 +173,15 @@ module _ (v : Version) (plan : List ℕ) (known : PlanKnownAs v plan) where
       (λ i h. ap (operator_within v) (operator-at i h) ∙ within_of v (part_at z plan i) (part-long i h) (part-allowed i h))
 
 -- A plan that passes 6 to 10 as version v is the encoding of its tree, byte for byte.
-pub plan-bytes : (v : Version) (plan : List ℕ) (n : ℕ) → read_plan_as v plan ≡ Nodes n → whole_tree plan ≡ true → plan ≡ plan_bytes_as v (plan_of plan)
+pub plan-bytes : (v : Version) (plan : List ℕ) (n : ℕ) → read_plan_as v plan ≡ Ok n → whole_tree plan ≡ true → plan ≡ plan_bytes_as v (plan_of plan)
 plan-bytes v plan n e whole = known_bytes v plan (plan_known-as v plan (ap plan_number e)) whole
 
 -- The fields of its tree can be written, where the plan's bytes are bytes.
-pub plan-fields : (v : Version) (plan : List ℕ) (n : ℕ) → read_plan_as v plan ≡ Nodes n → whole_tree plan ≡ true → Bytes plan → all fields (flatten (plan_of plan)) ≡ true
+pub plan-fields : (v : Version) (plan : List ℕ) (n : ℕ) → read_plan_as v plan ≡ Ok n → whole_tree plan ≡ true → Bytes plan → all fields (flatten (plan_of plan)) ≡ true
 plan-fields v plan n e whole bytes = known-fields v plan (plan_known-as v plan (ap plan_number e)) whole bytes
 
 -- The numbers of its tree's tests are in the version's range.
-pub plan_within : (v : Version) (plan : List ℕ) (n : ℕ) → read_plan_as v plan ≡ Nodes n → whole_tree plan ≡ true → all (operator_within v) (flatten (plan_of plan)) ≡ true
+pub plan_within : (v : Version) (plan : List ℕ) (n : ℕ) → read_plan_as v plan ≡ Ok n → whole_tree plan ≡ true → all (operator_within v) (flatten (plan_of plan)) ≡ true
 plan_within v plan n e whole = known-within v plan (plan_known-as v plan (ap plan_number e)) whole
 
 -- ---- the way back
@@ -280,7 +280,7 @@ module _ (v : Version) (p : Plan) (small : size p ≤ 64) (written : Written v (
   unfolding plan_bytes_as
   back-mark = starts_mark v (size p ∷ flat_map (node_bytes_as v) (flatten p))
 
-  back_read : read_plan_as v bytes ≡ Nodes (size p)
+  back_read : read_plan_as v bytes ≡ Ok (size p)
   unfolding read_plan_as
   back_read =
       let l : 6 ≤ length bytes = omega (arith, back_long) in
@@ -295,7 +295,7 @@ module _ (v : Version) (p : Plan) (small : size p ≤ 64) (written : Written v (
 
 -- The encoding of a tree that can be written as version v is read as version v, whole, and that tree's.
 pub bytes_plan_as : (v : Version) (p : Plan) → size p ≤ 64 → all fields (flatten p) ≡ true → all (operator_within v) (flatten p) ≡ true
-    → (read_plan_as v (plan_bytes_as v p) ≡ Nodes (size p)) × (plan_of (plan_bytes_as v p) ≡ p) × (whole_tree (plan_bytes_as v p) ≡ true)
+    → (read_plan_as v (plan_bytes_as v p) ≡ Ok (size p)) × (plan_of (plan_bytes_as v p) ≡ p) × (whole_tree (plan_bytes_as v p) ≡ true)
 bytes_plan_as v p small f w =
     let written : Written v (flatten p) = record { fields_all = f; within_all = w } in
     let t = back-tree v p small written in
@@ -319,7 +319,7 @@ all-second (op ∷ ops) h =
     rw (within-second op (and_left (fields op) (all fields ops) h), all-second ops (and_right (fields op) (all fields ops) h))
 
 pub bytes_plan : (p : Plan) → size p ≤ 64 → all fields (flatten p) ≡ true
-    → (read_plan (plan_bytes p) ≡ Nodes (size p)) × (plan_of (plan_bytes p) ≡ p) × (whole_tree (plan_bytes p) ≡ true)
+    → (read_plan (plan_bytes p) ≡ Ok (size p)) × (plan_of (plan_bytes p) ≡ p) × (whole_tree (plan_bytes p) ≡ true)
 bytes_plan p small f = bytes_plan_as Second p small f (all-second (flatten p) f)
 
 pub bytes_small : (p : Plan) → size p ≤ 64 → all fields (flatten p) ≡ true → Bytes (plan_bytes p)

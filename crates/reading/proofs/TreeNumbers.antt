@@ -9,7 +9,7 @@ use borrow.Author.Tests.{le-leb, lt-leb, leb-true}
 use native.Mathlib.Omega.{arith}
 use Rattle.algebra.specs.Plans.{Leaf, unit, Unary, Binary, Plan, leaf, one, two}
 use Rattle.algebra.specs.Places.{Operator, leaf_node, unary_node, binary_node}
-use Rattle.reading.specs.Plan.{node_at, nodes_of, kind_entry}
+use Rattle.reading.specs.Plan.{node_at, nodes_of, kind_entry, kind_row}
 use Rattle.reading.specs.Tree.{operator_of, operator_at, plan_at}
 use Rattle.reading.specs.Nodes.{arity}
 use Rattle.reading.specs.declared.plan.Node.{Node}
@@ -43,7 +43,7 @@ module _ {of : Plan → ℕ} {step : Operator → ℕ → ℕ → ℕ} {cap : �
   past-number h = rw (plan_past plan i h)
 
   -- the node that was read at the place, and the number of its children
-  module _ (h : i < nodes_of plan) (node : Node) (e : node ≡ node_at plan i) (children : ℕ) (q : children ≡ kind_entry node.kind 0) where
+  module _ (h : i < nodes_of plan) (node : Node) (e : node ≡ node_at plan i) (children : ℕ) (q : children ≡ kind_entry (kind_row node.kind) 0) where
     at_place : (v w : ℕ) → min (step (operator_of node) v w) cap ≡ min (step (operator_at plan i) v w) cap
     at_place v w = ap (λ (x : Node). min (step (operator_of x) v w) cap) e
 

@@ -78,11 +78,8 @@ module _ (x : ℕ) where
   word_off e = rw e
 
   module _ (n : x ≡ 2147483648 → ⊥) (m : x ≡ 2147483647 → ⊥) where
-    pub word_low : x < 2147483648 → word_of First x ≡ x + 9223372036854775808
-    word_low h = rw (ne_eqb x 2147483648 n, ne_eqb x 2147483647 m) (omega arith)
-
-    pub word-high : 2147483648 ≤ x → x ≤ 4294967295 → word_of First x ≡ x + 9223372032559808512
-    word-high h g = rw (ne_eqb x 2147483648 n, ne_eqb x 2147483647 m) (omega arith)
+    pub word_number : word_of First x ≡ (x + 2 ^ 31) % 2 ^ 32 + (origin - 2 ^ 31)
+    word_number = rw (ne_eqb x 2147483648 n, ne_eqb x 2147483647 m)
 
 -- an allowed cell is its code's word
 pub word-code : (v : Version) (w : ℕ) → cell_allowed v w ≡ true → word_of v (unsigned_code v w) ≡ w

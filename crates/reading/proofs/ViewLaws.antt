@@ -1,12 +1,11 @@
 -- A node's columns and names, part by part, and what they say of the tree at a place. Assumes nothing.
 use Rattle.std.specs.Prelude.{if◌then◌else◌}
-use Prim.Native.Nat.{ℕ, zero, suc, ◌+◌, ◌*◌, ◌≤◌, ◌<◌}
+use Prim.Native.Nat.{ℕ, ◌<◌}
 use native.Mathlib.Omega.{arith}
 use mathlib.Core.Path.{◌≡◌, refl, sym, ap, ◌∙◌}
 use mathlib.Core.Bool.{Bool, true, false, ◌&&◌, and-true, and-false}
 use mathlib.Core.List.{List, [], ◌∷◌, ◌++◌, append-nil}
 use lib.Dec.{eqb}
-use lib.ListN.{get_or-eq_default}
 use borrow.Author.Tests.{ne_eqb}
 use Rattle.algebra.specs.Lists.{member, within}
 use Rattle.algebra.specs.Cells.{sum, least, greatest, over}
@@ -14,47 +13,62 @@ use Rattle.algebra.specs.Plans.{Tables, Plan, leaf, one, two, nested, columns, f
 use Rattle.algebra.specs.Places.{Operator}
 use Rattle.algebra.specs.Names.{measured}
 use Rattle.algebra.specs.Refusals.{list_in_view, inner_scope, in_view}
-use Rattle.reading.specs.Plan.{kind_entry, node_at, nodes_of}
+use Rattle.reading.specs.Plan.{kind_entry, kind_row, node_at, nodes_of}
 use Rattle.reading.specs.Tree.{aggregate_of, node_aggregate, node_list, form_of, operator_by, operator_of, operator_at, plan_at}
-use Rattle.reading.specs.Nodes.{arity, operator_columns, operator_in_view, operator_nested, inner_columns, part_table, part_of, own_columns, kept_columns, first_names, second_names, list_names, test_names, root_in_view}
+use Rattle.reading.specs.Nodes.{arity, operator_columns, operator_in_view, inner_columns, own_columns, kept_columns, first_names, second_names, list_names, test_names, root_in_view}
+use Rattle.reading.specs.declared.kinds.Kind.{Kind}
+use Rattle.reading.specs.declared.kinds.Kind.TheVariants.{Unit, Scan, Select, Project, Distinct, Cross, Semi, Anti, Some, Every, Fold, Each, Pair, Group, Sort, Other}
 use Rattle.reading.specs.declared.plan.Node.{Node}
-use Rattle.reading.proofs.Operators.{by_kind, kind-above, arity_of}
+use Rattle.reading.proofs.Operators.{each_kind, arity_of}
 use Rattle.reading.proofs.Trees.{plan_case, first_tree, second_tree}
 use Rattle.reading.proofs.FlagLaws.{SameMembers, members_same, members_swap}
 
--- ---- the parts by their numbers
+-- ---- the kinds that give no columns and name none, part by part
 
 module _ (node : Node) where
-  pub first_more : (p : ℕ) → (p ≡ 0 → ⊥) → (p ≡ 1 → ⊥) → first_names p node ≡ node.right ∷ measured (node_aggregate node)
-  first_more zero a b = absurd (a refl)
-  first_more (suc zero) a b = absurd (b refl)
-  first_more (suc (suc p)) a b = refl
+  pub own_none : (T : Tables) (k : Kind) → (k ≡ Scan → ⊥) → (k ≡ Project → ⊥) → (k ≡ Distinct → ⊥) → (k ≡ Fold → ⊥) → (k ≡ Pair → ⊥) → (k ≡ Group → ⊥) → own_columns k T node ≡ []
+  own_none T =
+      each_kind (λ k. (k ≡ Scan → ⊥) → (k ≡ Project → ⊥) → (k ≡ Distinct → ⊥) → (k ≡ Fold → ⊥) → (k ≡ Pair → ⊥) → (k ≡ Group → ⊥) → own_columns k T node ≡ [])
+      (λ a b c d e f. refl) (λ a b c d e f. absurd (a refl)) (λ a b c d e f. refl) (λ a b c d e f. absurd (b refl)) (λ a b c d e f. absurd (c refl)) (λ a b c d e f. refl)
+      (λ a b c d e f. refl) (λ a b c d e f. refl) (λ a b c d e f. refl) (λ a b c d e f. refl) (λ a b c d e f. absurd (d refl)) (λ a b c d e f. refl)
+      (λ a b c d e f. absurd (e refl)) (λ a b c d e f. absurd (f refl)) (λ a b c d e f. refl) (λ k a b c d e f. refl)
 
-  pub second_more : (p : ℕ) → (p ≡ 0 → ⊥) → (p ≡ 1 → ⊥) → (p ≡ 2 → ⊥) → second_names p node ≡ node.right ∷ measured (node_aggregate node)
-  second_more zero a b c = absurd (a refl)
-  second_more (suc zero) a b c = absurd (b refl)
-  second_more (suc (suc zero)) a b c = absurd (c refl)
-  second_more (suc (suc (suc p))) a b c = refl
+  pub first_none : (k : Kind) → (k ≡ Semi → ⊥) → (k ≡ Anti → ⊥) → (k ≡ Pair → ⊥) → (k ≡ Group → ⊥) → first_names k node ≡ []
+  first_none =
+      each_kind (λ k. (k ≡ Semi → ⊥) → (k ≡ Anti → ⊥) → (k ≡ Pair → ⊥) → (k ≡ Group → ⊥) → first_names k node ≡ [])
+      (λ a b c d. refl) (λ a b c d. refl) (λ a b c d. refl) (λ a b c d. refl) (λ a b c d. refl) (λ a b c d. refl)
+      (λ a b c d. absurd (a refl)) (λ a b c d. absurd (b refl)) (λ a b c d. refl) (λ a b c d. refl) (λ a b c d. refl) (λ a b c d. refl)
+      (λ a b c d. absurd (c refl)) (λ a b c d. absurd (d refl)) (λ a b c d. refl) (λ k a b c d. refl)
 
-  pub list-has : (p : ℕ) → (p ≡ 0 → ⊥) → list_names p node ≡ node_list node
-  list-has zero a = absurd (a refl)
-  list-has (suc p) a = refl
+  pub second_none : (k : Kind) → (k ≡ Semi → ⊥) → (k ≡ Anti → ⊥) → (k ≡ Fold → ⊥) → (k ≡ Pair → ⊥) → second_names k node ≡ []
+  second_none =
+      each_kind (λ k. (k ≡ Semi → ⊥) → (k ≡ Anti → ⊥) → (k ≡ Fold → ⊥) → (k ≡ Pair → ⊥) → second_names k node ≡ [])
+      (λ a b c d. refl) (λ a b c d. refl) (λ a b c d. refl) (λ a b c d. refl) (λ a b c d. refl) (λ a b c d. refl)
+      (λ a b c d. absurd (a refl)) (λ a b c d. absurd (b refl)) (λ a b c d. refl) (λ a b c d. refl) (λ a b c d. absurd (c refl)) (λ a b c d. refl)
+      (λ a b c d. absurd (d refl)) (λ a b c d. refl) (λ a b c d. refl) (λ k a b c d. refl)
 
-  pub test_has : (p : ℕ) → (p ≡ 0 → ⊥) → test_names p node ≡ form_names (form_of node.test)
-  test_has zero a = absurd (a refl)
-  test_has (suc p) a = refl
+  pub list_none : (k : Kind) → (k ≡ Project → ⊥) → (k ≡ Distinct → ⊥) → (k ≡ Sort → ⊥) → list_names k node ≡ []
+  list_none =
+      each_kind (λ k. (k ≡ Project → ⊥) → (k ≡ Distinct → ⊥) → (k ≡ Sort → ⊥) → list_names k node ≡ [])
+      (λ a b c. refl) (λ a b c. refl) (λ a b c. refl) (λ a b c. absurd (a refl)) (λ a b c. absurd (b refl)) (λ a b c. refl)
+      (λ a b c. refl) (λ a b c. refl) (λ a b c. refl) (λ a b c. refl) (λ a b c. refl) (λ a b c. refl)
+      (λ a b c. refl) (λ a b c. refl) (λ a b c. absurd (c refl)) (λ k a b c. refl)
 
-  pub own-more : (T : Tables) (p : ℕ) → (p ≡ 0 → ⊥) → (p ≡ 1 → ⊥) → (p ≡ 2 → ⊥) → (p ≡ 3 → ⊥) → own_columns p T node ≡ node.left ∷ node.id ∷ []
-  own-more T zero a b c d = absurd (a refl)
-  own-more T (suc zero) a b c d = absurd (b refl)
-  own-more T (suc (suc zero)) a b c d = absurd (c refl)
-  own-more T (suc (suc (suc zero))) a b c d = absurd (d refl)
-  own-more T (suc (suc (suc (suc p)))) a b c d = refl
+  pub test_none : (k : Kind) → (k ≡ Select → ⊥) → (k ≡ Semi → ⊥) → (k ≡ Anti → ⊥) → (k ≡ Some → ⊥) → (k ≡ Every → ⊥) → (k ≡ Fold → ⊥) → (k ≡ Pair → ⊥) → (k ≡ Group → ⊥) → test_names k node ≡ []
+  test_none =
+      each_kind (λ k. (k ≡ Select → ⊥) → (k ≡ Semi → ⊥) → (k ≡ Anti → ⊥) → (k ≡ Some → ⊥) → (k ≡ Every → ⊥) → (k ≡ Fold → ⊥) → (k ≡ Pair → ⊥) → (k ≡ Group → ⊥) → test_names k node ≡ [])
+      (λ a b c d e f g h. refl) (λ a b c d e f g h. refl) (λ a b c d e f g h. absurd (a refl)) (λ a b c d e f g h. refl) (λ a b c d e f g h. refl) (λ a b c d e f g h. refl)
+      (λ a b c d e f g h. absurd (b refl)) (λ a b c d e f g h. absurd (c refl)) (λ a b c d e f g h. absurd (d refl)) (λ a b c d e f g h. absurd (e refl)) (λ a b c d e f g h. absurd (f refl)) (λ a b c d e f g h. refl)
+      (λ a b c d e f g h. absurd (g refl)) (λ a b c d e f g h. absurd (h refl)) (λ a b c d e f g h. refl) (λ k a b c d e f g h. refl)
 
-pub kept_more : (p : ℕ) (own cs ds : List ℕ) → (p ≡ 0 → ⊥) → (p ≡ 1 → ⊥) → kept_columns p own cs ds ≡ ds ++ (cs ++ own)
-kept_more zero own cs ds a b = absurd (a refl)
-kept_more (suc zero) own cs ds a b = absurd (b refl)
-kept_more (suc (suc p)) own cs ds a b = refl
+-- the kinds that keep the columns of one child
+pub kept_one : (own cs ds : List ℕ) (k : Kind) → (k ≡ Unit → ⊥) → (k ≡ Scan → ⊥) → (k ≡ Project → ⊥) → (k ≡ Distinct → ⊥) → (k ≡ Group → ⊥) → ((byte : ℕ) → k ≡ Other byte → ⊥) → (k ≡ Cross → ⊥) → (k ≡ Each → ⊥)
+    → kept_columns k own cs ds ≡ cs ++ own
+kept_one own cs ds =
+    each_kind (λ k. (k ≡ Unit → ⊥) → (k ≡ Scan → ⊥) → (k ≡ Project → ⊥) → (k ≡ Distinct → ⊥) → (k ≡ Group → ⊥) → ((byte : ℕ) → k ≡ Other byte → ⊥) → (k ≡ Cross → ⊥) → (k ≡ Each → ⊥) → kept_columns k own cs ds ≡ cs ++ own)
+    (λ a b c d e f g h. absurd (a refl)) (λ a b c d e f g h. absurd (b refl)) (λ a b c d e f g h. refl) (λ a b c d e f g h. absurd (c refl)) (λ a b c d e f g h. absurd (d refl)) (λ a b c d e f g h. absurd (g refl))
+    (λ a b c d e f g h. refl) (λ a b c d e f g h. refl) (λ a b c d e f g h. refl) (λ a b c d e f g h. refl) (λ a b c d e f g h. refl) (λ a b c d e f g h. absurd (h refl))
+    (λ a b c d e f g h. refl) (λ a b c d e f g h. absurd (e refl)) (λ a b c d e f g h. refl) (λ k a b c d e f g h. absurd (f k refl))
 
 -- an aggregate's column; count has none
 pub measured-none : (code column : ℕ) → code ≡ 0 → measured (aggregate_of code column) ≡ []
@@ -68,16 +82,11 @@ measured-one code column e = rw (ne_eqb code 0 e) (by (eqb code 1) (eqb code 2))
     by false true = refl
     by false false = refl
 
--- past the kinds every part is 0
-pub part-above : (k j : ℕ) → 14 < k → part_of k j ≡ 0
-unfolding part_table
-part-above k j h = let g : 105 ≤ 7 * k + j = omega arith in get_or-eq_default part_table 0 g
-
 -- ---- the parts make the whole
 
 module _ (node : Node) (T : Tables) (cs ds : List ℕ) where
-  abbrev HasColumns : ℕ → Type 0
-  HasColumns k = SameMembers (kept_columns (part_of k 0) (own_columns (part_of k 1) T node) cs ds) (operator_columns T (operator_by k node) cs ds)
+  abbrev HasColumns : Kind → Type 0
+  HasColumns k = SameMembers (kept_columns k (own_columns k T node) cs ds) (operator_columns T (operator_by k node) cs ds)
 
   both : SameMembers (ds ++ (cs ++ [])) (cs ++ ds)
   both = rw append-nil (members_swap ds cs)
@@ -85,10 +94,10 @@ module _ (node : Node) (T : Tables) (cs ds : List ℕ) where
   plainly : SameMembers (cs ++ []) cs
   plainly = rw append-nil (members_same cs)
 
-  columns-by-kind : (k : ℕ) → HasColumns k
-  unfolding operator_by part_table
+  columns-by-kind : (k : Kind) → HasColumns k
+  unfolding operator_by
   columns-by-kind =
-      by_kind HasColumns
+      each_kind HasColumns
       (members_same _)
       (members_same _)
       plainly
@@ -104,11 +113,11 @@ module _ (node : Node) (T : Tables) (cs ds : List ℕ) where
       (members_same _)
       (members_same _)
       plainly
-      (λ k h. rw (part-above k 0 h, part-above k 1 h, kind-above node k h) (members_same []))
+      (λ k. members_same [])
 
 -- the columns of the tree at a place
 pub columns-parts : (T : Tables) (plan : List ℕ) (i : ℕ) → i < nodes_of plan
-    → SameMembers (kept_columns (part_of (node_at plan i).kind 0) (own_columns (part_of (node_at plan i).kind 1) T (node_at plan i)) (columns T (first_tree plan i)) (columns T (second_tree plan i))) (columns T (plan_at plan i))
+    → SameMembers (kept_columns (node_at plan i).kind (own_columns (node_at plan i).kind T (node_at plan i)) (columns T (first_tree plan i)) (columns T (second_tree plan i))) (columns T (plan_at plan i))
 unfolding columns
 columns-parts T plan i h =
     rw (whole h) (columns-by-kind (node_at plan i) T (columns T (first_tree plan i)) (columns T (second_tree plan i)) (node_at plan i).kind)
@@ -116,10 +125,10 @@ columns-parts T plan i h =
     whole : i < nodes_of plan → columns T (plan_at plan i) ≡ operator_columns T (operator_at plan i) (columns T (first_tree plan i)) (columns T (second_tree plan i))
     whole = plan_case plan i (λ op p. columns T p ≡ operator_columns T op (columns T (first_tree plan i)) (columns T (second_tree plan i))) (λ x. refl) (λ u. refl) (λ b. refl)
 
--- .. for the node that was read there, and the number of children whose columns it keeps
-pub columns-kept : (T : Tables) (plan : List ℕ) (i : ℕ) → i < nodes_of plan → (node : Node) → node ≡ node_at plan i → (p : ℕ) → p ≡ part_of node.kind 0
-    → SameMembers (kept_columns p (own_columns (part_of node.kind 1) T node) (columns T (first_tree plan i)) (columns T (second_tree plan i))) (columns T (plan_at plan i))
-columns-kept T plan i h node e p q = rw (q, e) (columns-parts T plan i h)
+-- .. for the node that was read there
+pub columns-kept : (T : Tables) (plan : List ℕ) (i : ℕ) → i < nodes_of plan → (node : Node) → node ≡ node_at plan i
+    → SameMembers (kept_columns node.kind (own_columns node.kind T node) (columns T (first_tree plan i)) (columns T (second_tree plan i))) (columns T (plan_at plan i))
+columns-kept T plan i h node e = rw e (columns-parts T plan i h)
 
 -- ---- names in view
 
@@ -130,19 +139,19 @@ three true false c = refl
 three false b c = refl
 
 module _ (node : Node) (scope cs ds : List ℕ) where
-  abbrev ListSeen : ℕ → Bool
-  ListSeen k = list_in_view (list_names (part_of k 4) node) cs
+  abbrev ListSeen : Kind → Bool
+  ListSeen k = list_in_view (list_names k node) cs
 
-  abbrev FirstSeen : ℕ → Bool
-  FirstSeen k = within (first_names (part_of k 2) node) cs
+  abbrev FirstSeen : Kind → Bool
+  FirstSeen k = within (first_names k node) cs
 
-  abbrev SecondSeen : ℕ → Bool
-  SecondSeen k = within (second_names (part_of k 3) node) ds
+  abbrev SecondSeen : Kind → Bool
+  SecondSeen k = within (second_names k node) ds
 
-  abbrev TestSeen : ℕ → Bool
-  TestSeen k = within (test_names (part_of k 5) node) (cs ++ (ds ++ scope))
+  abbrev TestSeen : Kind → Bool
+  TestSeen k = within (test_names k node) (cs ++ (ds ++ scope))
 
-  abbrev InParts : ℕ → Type 0
+  abbrev InParts : Kind → Type 0
   InParts k = operator_in_view scope (operator_by k node) cs ds ≡ (ListSeen k && (FirstSeen k && (SecondSeen k && TestSeen k)))
 
   abbrev Names : Bool
@@ -151,8 +160,8 @@ module _ (node : Node) (scope cs ds : List ℕ) where
   abbrev Measured : List ℕ → Bool
   Measured es = within (measured (node_aggregate node)) es
 
-  keyed : InParts 6
-  unfolding operator_by part_table
+  keyed : InParts Semi
+  unfolding operator_by
   keyed = by (member node.left cs) (member node.right ds) Names
     where
       by : (a b c : Bool) → (a && (b && (c && true))) ≡ ((a && true) && ((b && true) && c))
@@ -160,16 +169,16 @@ module _ (node : Node) (scope cs ds : List ℕ) where
       by true false c = refl
       by false b c = refl
 
-  folded : InParts 10
-  unfolding operator_by part_table
+  folded : InParts Fold
+  unfolding operator_by
   folded = by (Measured ds) Names
     where
       by : (b c : Bool) → (b && (c && true)) ≡ (b && c)
       by true c = and-true c
       by false c = refl
 
-  paired : InParts 12
-  unfolding operator_by part_table
+  paired : InParts Pair
+  unfolding operator_by
   paired = by (member node.left cs) (member node.right ds) (Measured ds) Names
     where
       by : (a b m c : Bool) → (a && (b && (m && (c && true)))) ≡ ((a && true) && ((b && m) && c))
@@ -178,17 +187,17 @@ module _ (node : Node) (scope cs ds : List ℕ) where
       by true false m c = refl
       by false b m c = refl
 
-  grouped : InParts 13
-  unfolding operator_by part_table
+  grouped : InParts Group
+  unfolding operator_by
   grouped = three (member node.right cs) (Measured cs) Names
 
   listed : list_in_view (node_list node) cs ≡ (list_in_view (node_list node) cs && true)
   listed = sym (and-true (list_in_view (node_list node) cs))
 
-  in_view_by-kind : (k : ℕ) → InParts k
-  unfolding operator_by part_table
+  in_view_by-kind : (k : Kind) → InParts k
+  unfolding operator_by
   in_view_by-kind =
-      by_kind InParts
+      each_kind InParts
       refl
       refl
       refl
@@ -204,9 +213,9 @@ module _ (node : Node) (scope cs ds : List ℕ) where
       paired
       grouped
       listed
-      (λ k h. rw (part-above k 2 h, part-above k 3 h, part-above k 4 h, part-above k 5 h, kind-above node k h))
+      (λ k. refl)
 
-  abbrev kind : ℕ
+  abbrev kind : Kind
   kind = node.kind
 
   pub list_fails : ListSeen kind ≡ false → false ≡ operator_in_view scope (operator_of node) cs ds
@@ -229,21 +238,6 @@ module _ (node : Node) (scope cs ds : List ℕ) where
 inner_is : (b : Bool) (cs scope : List ℕ) → (if b then cs else []) ++ scope ≡ inner_scope b cs scope
 inner_is true cs scope = refl
 inner_is false cs scope = refl
-
--- whether the second child is nested, by the table
-pub nested-by-kind : (node : Node) (k : ℕ) → part_of k 6 ≡ (if operator_nested (operator_by k node) then 1 else 0)
-unfolding operator_by part_table
-nested-by-kind node =
-    by_kind (λ k. part_of k 6 ≡ (if operator_nested (operator_by k node) then 1 else 0)) refl refl refl refl refl refl refl refl refl refl refl refl refl refl refl
-    (λ k h. rw (part-above k 6 h, kind-above node k h))
-
-pub not-nested : (b : Bool) (p : ℕ) → p ≡ (if b then 1 else 0) → p ≡ 0 → b ≡ false
-not-nested true p e z = absurd (omega arith)
-not-nested false p e z = refl
-
-pub is-nested : (b : Bool) (p : ℕ) → p ≡ (if b then 1 else 0) → (p ≡ 0 → ⊥) → b ≡ true
-is-nested true p e z = refl
-is-nested false p e z = absurd (z e)
 
 module _ (T : Tables) (plan : List ℕ) (i : ℕ) (h : i < nodes_of plan) (scope : List ℕ) where
   abbrev op : Operator
@@ -328,9 +322,9 @@ module _ (T : Tables) (plan : List ℕ) (i : ℕ) (h : i < nodes_of plan) (scope
       h
 
 -- .. for the node that was read there, and the number of its children
-module _ (T : Tables) (plan : List ℕ) (i : ℕ) (h : i < nodes_of plan) (node : Node) (e : node ≡ node_at plan i) (n : ℕ) (q : n ≡ kind_entry node.kind 0) (scope : List ℕ) where
+module _ (T : Tables) (plan : List ℕ) (i : ℕ) (h : i < nodes_of plan) (node : Node) (e : node ≡ node_at plan i) (n : ℕ) (q : n ≡ kind_entry (kind_row node.kind) 0) (scope : List ℕ) where
   children : n ≡ arity (operator_at plan i)
-  children = q ∙ (ap (λ m. kind_entry m.kind 0) e ∙ arity_of (node_at plan i))
+  children = q ∙ (ap (λ m. kind_entry (kind_row m.kind) 0) e ∙ arity_of (node_at plan i))
 
   pub root-leaf : n ≡ 0 → true ≡ root_in_view T scope (plan_at plan i)
   root-leaf z = at-root-leaf T plan i h scope (sym children ∙ z)

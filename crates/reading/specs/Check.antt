@@ -1,31 +1,26 @@
 -- The whole of reading: what a set and a plan are turned back for, and what they give where they are not (docs/DEFINITION.md, "Refusals"
 -- and "The calls"). Definitions only.
-use Rattle.std.specs.Prelude.{ℕ, zero, suc, List, if◌then◌else◌}
+use Rattle.std.specs.Prelude.{ℕ, zero, suc, List, if◌then◌else◌, Result, Ok, Err}
 use Rattle.algebra.specs.Plans.{Tables}
 use Rattle.algebra.specs.Refusals.{refusal, need}
+use Rattle.reading.specs.Refusals.{number_of, refusal_of}
 use Rattle.reading.specs.TableSet.{read_set_as, amount_of, known_tables, tables_as}
 use Rattle.reading.specs.Plan.{read_plan_as, nodes_of}
 use Rattle.reading.specs.Tree.{plan_of, whole_tree}
 use Rattle.reading.specs.declared.version.Version.{Version}
 use Rattle.reading.specs.declared.version.Version.TheVariants.{Second}
-use Rattle.reading.specs.declared.set.SetRead.{SetRead}
-use Rattle.reading.specs.declared.set.SetRead.TheVariants.{Holds, Refused}
-use Rattle.reading.specs.declared.plan.PlanRead.{PlanRead}
-use Rattle.reading.specs.declared.plan.PlanRead.TheVariants.{Nodes, Refused as PlanRefused}
-use Rattle.reading.specs.declared.input.Checked.{Checked}
-use Rattle.reading.specs.declared.input.Checked.TheVariants.{Accepted, Refused as InputRefused}
+use Rattle.reading.specs.declared.refusal.Refusal.{Refusal}
+use Rattle.reading.specs.declared.input.Accepted.{Accepted}
 
 -- ---- The numbers; 0 where nothing is turned back
 
 -- 1 to 5
-abbrev pub set_number : SetRead → ℕ
-set_number (Holds n) = 0
-set_number (Refused number) = number
+abbrev pub set_number : Result ℕ Refusal → ℕ
+set_number r = number_of r
 
 -- 6 to 9
-abbrev pub plan_number : PlanRead → ℕ
-plan_number (Nodes n) = 0
-plan_number (PlanRefused number) = number
+abbrev pub plan_number : Result ℕ Refusal → ℕ
+plan_number r = number_of r
 
 -- the first of two numbers that turns back
 abbrev pub or_next : ℕ → ℕ → ℕ
@@ -51,26 +46,25 @@ input_refusal_as v set plan = or_next (set_number (read_set_as v set)) (plan_ref
 -- ---- The answer
 
 -- an answer's number
-abbrev pub checked_number : Checked → ℕ
-checked_number (Accepted tables nodes cells) = 0
-checked_number (InputRefused number) = number
+abbrev pub checked_number : Result Accepted Refusal → ℕ
+checked_number r = number_of r
 
 -- the scratch that it asks for; 0 where the input is turned back
-abbrev pub checked_need : Checked → ℕ
-checked_need (Accepted tables nodes cells) = cells
-checked_need (InputRefused number) = 0
+abbrev pub checked_need : Result Accepted Refusal → ℕ
+checked_need (Ok accepted) = accepted.need
+checked_need (Err refusal) = 0
 
--- accepted, with the tables, the nodes and the need in cells; or the number
-abbrev pub answer : ℕ → ℕ → ℕ → ℕ → Checked
-answer zero tables nodes cells = Accepted tables nodes cells
-answer (suc number) tables nodes cells = InputRefused (suc number)
+-- accepted, with the tables, the nodes and the need in cells; or the refusal of that number
+abbrev pub answer : ℕ → ℕ → ℕ → ℕ → Result Accepted Refusal
+answer zero tables nodes cells = Ok (record { tables = tables; nodes = nodes; need = cells })
+answer (suc number) tables nodes cells = Err (refusal_of (suc number))
 
 -- of a set and a plan of version v
-unfoldable pub check_as : Version → List ℕ → List ℕ → Checked
+unfoldable pub check_as : Version → List ℕ → List ℕ → Result Accepted Refusal
 check_as v set plan = answer (input_refusal_as v set plan) (amount_of (read_set_as v set)) (nodes_of plan) (need (tables_as v set) (plan_of plan))
 
 -- The answer over a set that is known to have so many tables: 6 to 14 only, so that the set is read once for many plans.
-unfoldable pub check_over_as : Version → ℕ → List ℕ → List ℕ → Checked
+unfoldable pub check_over_as : Version → ℕ → List ℕ → List ℕ → Result Accepted Refusal
 check_over_as v tables set plan =
     answer (refusal_over_as v (known_tables tables set) plan) tables (nodes_of plan) (need (known_tables tables set) (plan_of plan))
 
@@ -85,8 +79,8 @@ plan_refusal set plan = plan_refusal_as Second set plan
 abbrev pub input_refusal : List ℕ → List ℕ → ℕ
 input_refusal set plan = input_refusal_as Second set plan
 
-abbrev pub check_of : List ℕ → List ℕ → Checked
+abbrev pub check_of : List ℕ → List ℕ → Result Accepted Refusal
 check_of set plan = check_as Second set plan
 
-abbrev pub check_over : ℕ → List ℕ → List ℕ → Checked
+abbrev pub check_over : ℕ → List ℕ → List ℕ → Result Accepted Refusal
 check_over tables set plan = check_over_as Second tables set plan

@@ -1,13 +1,12 @@
 -- The columns that a node names from outside its tree, part by part. The contracts of helpers speak of these; what a tree names from outside
 -- itself is the algebra's `free`. Definitions only.
-use Rattle.std.specs.Prelude.{ℕ, zero, suc, ◌<◌, Bool, true, not, ◌≡◌, List, [], ◌∷◌, ◌++◌, eqb, length, get_or, if◌then◌else◌}
+use Rattle.std.specs.Prelude.{ℕ, ◌<◌, Bool, true, not, ◌≡◌, List, [], ◌∷◌, ◌++◌, eqb, length, get_or, if◌then◌else◌}
 use Rattle.algebra.specs.Lists.{all, member, minus}
 use Rattle.algebra.specs.Plans.{names, form_names, Unary, select, project, distinct, group, sort}
 use Rattle.algebra.specs.Places.{Operator, leaf_node, unary_node, binary_node}
 use Rattle.algebra.specs.Names.{measured, binary_names, inner_free}
 use Rattle.algebra.specs.Refusals.{byte}
-use Rattle.reading.specs.Bytes.{byte_at}
-use Rattle.reading.specs.Tree.{form_of, node_aggregate, node_list}
+use Rattle.reading.specs.Tree.{form_of, node_aggregate}
 use Rattle.reading.specs.Flags.{Flags}
 use Rattle.reading.specs.Nodes.{operator_nested}
 use Rattle.reading.specs.declared.plan.Node.{Node}
@@ -27,28 +26,11 @@ operator_names (leaf_node x) = []
 operator_names (unary_node u) = unary_names u
 operator_names (binary_node b) = binary_names b
 
--- For each kind: 0 it names nothing; 1 its list; 2 its test; 3 its keys and its test; 4 its aggregate column and its test; 5 its keys, its
--- aggregate column and its test; 6 the same, of which the left key is its own.
-unfoldable pub names_table : List ℕ
-names_table = 0 ∷ 0 ∷ 2 ∷ 1 ∷ 1 ∷ 0 ∷ 3 ∷ 3 ∷ 2 ∷ 2 ∷ 4 ∷ 0 ∷ 5 ∷ 6 ∷ 1 ∷ []
-
-abbrev pub names_of : ℕ → ℕ
-names_of kind = byte_at names_table kind
-
 abbrev pub test_named : Node → List ℕ
 test_named node = form_names (form_of node.test)
 
 abbrev pub row_names : Node → List ℕ
 row_names node = measured (node_aggregate node) ++ test_named node
-
-abbrev pub node_names : ℕ → Node → List ℕ
-node_names zero node = []
-node_names (suc zero) node = node_list node
-node_names (suc (suc zero)) node = test_named node
-node_names (suc (suc (suc zero))) node = node.left ∷ node.right ∷ test_named node
-node_names (suc (suc (suc (suc zero)))) node = row_names node
-node_names (suc (suc (suc (suc (suc zero))))) node = node.left ∷ node.right ∷ row_names node
-node_names (suc (suc (suc (suc (suc (suc more)))))) node = node.right ∷ minus (row_names node) (node.left ∷ [])
 
 -- ---- from outside its tree
 

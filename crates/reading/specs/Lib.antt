@@ -1,5 +1,6 @@
 pub mod Bytes
 pub mod Versions
+pub mod Refusals
 pub mod TableSet
 pub mod Plan
 pub mod Tree

@@ -1,14 +1,16 @@
 -- What one node does, apart from its children's trees. The contracts of helpers speak of these; the definitions of whole plans are the algebra's.
-use Rattle.std.specs.Prelude.{ℕ, zero, suc, ◌+◌, ◌*◌, min, Bool, true, false, ◌≡◌, List, [], ◌∷◌, ◌++◌, map, length, eqb, if◌then◌else◌}
+use Rattle.std.specs.Prelude.{ℕ, ◌+◌, ◌*◌, min, Bool, true, false, ◌≡◌, List, [], ◌∷◌, ◌++◌, map, length, if◌then◌else◌}
 use Rattle.algebra.specs.Lists.{flat_map, total, upward}
 use Rattle.algebra.specs.Plans.{Tables, Unary, select, project, distinct, group, sort, form_names, Binary, cross, semi, quant, fold, each, pair, Plan, leaf, one, two, leaf_columns, unary_columns, binary_columns, columns, nested}
 use Rattle.algebra.specs.Places.{Operator, leaf_node, unary_node, binary_node, root, subtrees}
 use Rattle.algebra.specs.Names.{measured, unary_new, binary_new}
 use Rattle.algebra.specs.Refusals.{leaf_bound, per_row, bound, width, has_region, counted_rows, unary_in_view, binary_in_view, found, in_view}
-use Rattle.reading.specs.Bytes.{all_below, byte_at}
+use Rattle.reading.specs.Bytes.{all_below}
 use Rattle.reading.specs.Flags.{Flags}
 use Rattle.reading.specs.Plan.{nodes_of}
 use Rattle.reading.specs.Tree.{form_of, node_aggregate, node_list, operator_at}
+use Rattle.reading.specs.declared.kinds.Kind.{Kind}
+use Rattle.reading.specs.declared.kinds.Kind.TheVariants.{Unit, Scan, Project, Distinct, Cross, Semi, Anti, Fold, Each, Pair, Group, Sort, Other}
 use Rattle.reading.specs.declared.plan.Node.{Node}
 
 -- how many children
@@ -65,8 +67,12 @@ operator_new T (unary_node u) = unary_new u
 operator_new T (binary_node b) = binary_new b
 
 -- of these the one in byte 3, which only a Group introduces; the others are a run from the id in byte 2 upward
+abbrev pub key_of : Kind → Node → List ℕ
+key_of Group node = node.left ∷ []
+key_of kind node = []
+
 abbrev pub key_new : Node → List ℕ
-key_new node = if eqb node.kind 13 then node.left ∷ [] else []
+key_new node = key_of node.kind node
 
 -- the ids that the nodes introduce, node by node
 unfoldable pub ids_of : Tables → List ℕ → ℕ → ℕ → List ℕ
@@ -80,68 +86,62 @@ operator_in_view scope (binary_node b) cs ds = binary_in_view scope b cs ds
 
 -- ---- its columns and names, part by part
 
--- A row of 7 for each kind. The columns of how many children its rows hold; the columns that it gives besides (0 none, 1 a table's, 2 its
--- list, 3 the new id, 4 the new id and the left key); what it names of its first child (0 nothing, 1 the left key, 2 the right key and the
--- aggregate column); of its second child (0 nothing, 1 the right key, 2 the aggregate column, 3 both); whether it has a list; whether it has
--- a test; whether its second child is nested.
-unfoldable pub part_table : List ℕ
-part_table =
-    0 ∷ 0 ∷ 0 ∷ 0 ∷ 0 ∷ 0 ∷ 0 ∷
-    0 ∷ 1 ∷ 0 ∷ 0 ∷ 0 ∷ 0 ∷ 0 ∷
-    1 ∷ 0 ∷ 0 ∷ 0 ∷ 0 ∷ 1 ∷ 0 ∷
-    0 ∷ 2 ∷ 0 ∷ 0 ∷ 1 ∷ 0 ∷ 0 ∷
-    0 ∷ 2 ∷ 0 ∷ 0 ∷ 1 ∷ 0 ∷ 0 ∷
-    2 ∷ 0 ∷ 0 ∷ 0 ∷ 0 ∷ 0 ∷ 0 ∷
-    1 ∷ 0 ∷ 1 ∷ 1 ∷ 0 ∷ 1 ∷ 0 ∷
-    1 ∷ 0 ∷ 1 ∷ 1 ∷ 0 ∷ 1 ∷ 0 ∷
-    1 ∷ 0 ∷ 0 ∷ 0 ∷ 0 ∷ 1 ∷ 1 ∷
-    1 ∷ 0 ∷ 0 ∷ 0 ∷ 0 ∷ 1 ∷ 1 ∷
-    1 ∷ 3 ∷ 0 ∷ 2 ∷ 0 ∷ 1 ∷ 1 ∷
-    2 ∷ 0 ∷ 0 ∷ 0 ∷ 0 ∷ 0 ∷ 1 ∷
-    1 ∷ 3 ∷ 1 ∷ 3 ∷ 0 ∷ 1 ∷ 0 ∷
-    0 ∷ 4 ∷ 2 ∷ 0 ∷ 0 ∷ 1 ∷ 0 ∷
-    1 ∷ 0 ∷ 0 ∷ 0 ∷ 1 ∷ 0 ∷ 0 ∷ []
-
--- column j of a kind's row
-abbrev pub part_of : ℕ → ℕ → ℕ
-part_of kind j = byte_at part_table (7 * kind + j)
-
 -- the columns that a node gives besides those of its children
-abbrev pub own_columns : ℕ → Tables → Node → List ℕ
-own_columns zero T node = []
-own_columns (suc zero) T node = upward (T.width node.arg) node.id
-own_columns (suc (suc zero)) T node = node_list node
-own_columns (suc (suc (suc zero))) T node = node.id ∷ []
-own_columns (suc (suc (suc (suc more)))) T node = node.left ∷ node.id ∷ []
+abbrev pub own_columns : Kind → Tables → Node → List ℕ
+own_columns Scan T node = upward (T.width node.arg) node.id
+own_columns Project T node = node_list node
+own_columns Distinct T node = node_list node
+own_columns Fold T node = node.id ∷ []
+own_columns Pair T node = node.id ∷ []
+own_columns Group T node = node.left ∷ node.id ∷ []
+own_columns kind T node = []
 
 -- all its columns, in some order: own its own ones, cs and ds those of its children
-abbrev pub kept_columns : ℕ → List ℕ → List ℕ → List ℕ → List ℕ
-kept_columns zero own cs ds = own
-kept_columns (suc zero) own cs ds = cs ++ own
-kept_columns (suc (suc more)) own cs ds = ds ++ (cs ++ own)
+abbrev pub kept_columns : Kind → List ℕ → List ℕ → List ℕ → List ℕ
+kept_columns Unit own cs ds = own
+kept_columns Scan own cs ds = own
+kept_columns Project own cs ds = own
+kept_columns Distinct own cs ds = own
+kept_columns Group own cs ds = own
+kept_columns (Other byte) own cs ds = own
+kept_columns Cross own cs ds = ds ++ (cs ++ own)
+kept_columns Each own cs ds = ds ++ (cs ++ own)
+kept_columns kind own cs ds = cs ++ own
 
 -- what it names of its first child, besides its list
-abbrev pub first_names : ℕ → Node → List ℕ
-first_names zero node = []
-first_names (suc zero) node = node.left ∷ []
-first_names (suc (suc more)) node = node.right ∷ measured (node_aggregate node)
+abbrev pub first_names : Kind → Node → List ℕ
+first_names Semi node = node.left ∷ []
+first_names Anti node = node.left ∷ []
+first_names Pair node = node.left ∷ []
+first_names Group node = node.right ∷ measured (node_aggregate node)
+first_names kind node = []
 
 -- what it names of its second child
-abbrev pub second_names : ℕ → Node → List ℕ
-second_names zero node = []
-second_names (suc zero) node = node.right ∷ []
-second_names (suc (suc zero)) node = measured (node_aggregate node)
-second_names (suc (suc (suc more))) node = node.right ∷ measured (node_aggregate node)
+abbrev pub second_names : Kind → Node → List ℕ
+second_names Semi node = node.right ∷ []
+second_names Anti node = node.right ∷ []
+second_names Fold node = measured (node_aggregate node)
+second_names Pair node = node.right ∷ measured (node_aggregate node)
+second_names kind node = []
 
 -- its list, where it has one
-abbrev pub list_names : ℕ → Node → List ℕ
-list_names zero node = []
-list_names (suc more) node = node_list node
+abbrev pub list_names : Kind → Node → List ℕ
+list_names Project node = node_list node
+list_names Distinct node = node_list node
+list_names Sort node = node_list node
+list_names kind node = []
 
 -- what its test names, where it has one
-abbrev pub test_names : ℕ → Node → List ℕ
-test_names zero node = []
-test_names (suc more) node = form_names (form_of node.test)
+abbrev pub test_names : Kind → Node → List ℕ
+test_names Unit node = []
+test_names Scan node = []
+test_names Project node = []
+test_names Distinct node = []
+test_names Cross node = []
+test_names Each node = []
+test_names Sort node = []
+test_names (Other byte) node = []
+test_names kind node = form_names (form_of node.test)
 
 -- the names of a tree's topmost node are in view
 abbrev pub root_in_view : Tables → List ℕ → Plan → Bool

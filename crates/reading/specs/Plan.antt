@@ -1,19 +1,67 @@
 -- The plan's bytes, and the refusals 6 to 9 (docs/DEFINITION.md, "The plan's bytes").
 -- A plan is a list of bytes: 6 bytes of header, which says its version, then 24 or 32 bytes for each node. A plan is read as one of the two
 -- versions, v. Definitions only.
-use Rattle.std.specs.Prelude.{ℕ, ◌+◌, ◌*◌, Bool, ◌&&◌, ◌||◌, not, List, [], ◌∷◌, length, take, drop, leb, ltb, eqb, if◌then◌else◌}
+use Rattle.std.specs.Prelude.{ℕ, ◌+◌, ◌*◌, Bool, ◌&&◌, ◌||◌, not, List, [], ◌∷◌, length, take, drop, leb, ltb, eqb, if◌then◌else◌, Result, Ok, Err}
 use Rattle.algebra.specs.Cells.{within_reach}
 use Rattle.reading.specs.Bytes.{byte_at, u16_at, unsigned_at, starts_with, all_below}
 use Rattle.reading.specs.Versions.{version_number, version_of, cell_size, node_size, test_size, reach_of, word_of}
 use Rattle.reading.specs.declared.version.Version.{Version}
 use Rattle.reading.specs.declared.version.Version.TheVariants.{Second}
-use Rattle.reading.specs.declared.plan.PlanRead.{PlanRead}
-use Rattle.reading.specs.declared.plan.PlanRead.TheVariants.{Nodes, Refused}
+use Rattle.reading.specs.declared.refusal.Refusal.{Refusal}
+use Rattle.reading.specs.declared.refusal.Refusal.TheVariants.{PlanLength, PlanMark, NodeCount, NodeField}
+use Rattle.reading.specs.declared.kinds.Kind.{Kind}
+use Rattle.reading.specs.declared.kinds.Kind.TheVariants.{Unit, Scan, Select, Project, Distinct, Cross, Semi, Anti, Some, Every, Fold, Each, Pair, Group, Sort, Other}
+use Rattle.reading.specs.declared.comparison.Comparison.{Comparison}
+use Rattle.reading.specs.declared.comparison.Comparison.TheVariants.{Equal, Unequal, Less, AtMost, Greater, AtLeast, Other as Unnamed}
 use Rattle.reading.specs.declared.plan.Test.{Test}
 use Rattle.reading.specs.declared.plan.Test.TheVariants.{Always, Columns, Number}
 use Rattle.reading.specs.declared.plan.Node.{Node}
 
 -- ---- The kinds
+
+-- the kind that byte 0 names; a byte above 14 names none, and is kept
+abbrev pub kind_of : ℕ → Kind
+kind_of byte =
+    if eqb byte 0 then Unit else
+    if eqb byte 1 then Scan else
+    if eqb byte 2 then Select else
+    if eqb byte 3 then Project else
+    if eqb byte 4 then Distinct else
+    if eqb byte 5 then Cross else
+    if eqb byte 6 then Semi else
+    if eqb byte 7 then Anti else
+    if eqb byte 8 then Some else
+    if eqb byte 9 then Every else
+    if eqb byte 10 then Fold else
+    if eqb byte 11 then Each else
+    if eqb byte 12 then Pair else
+    if eqb byte 13 then Group else
+    if eqb byte 14 then Sort else
+    Other byte
+
+-- a kind's place among the kinds, from 0 on; a byte that names none comes after all of them
+abbrev pub kind_row : Kind → ℕ
+kind_row Unit = 0
+kind_row Scan = 1
+kind_row Select = 2
+kind_row Project = 3
+kind_row Distinct = 4
+kind_row Cross = 5
+kind_row Semi = 6
+kind_row Anti = 7
+kind_row Some = 8
+kind_row Every = 9
+kind_row Fold = 10
+kind_row Each = 11
+kind_row Pair = 12
+kind_row Group = 13
+kind_row Sort = 14
+kind_row (Other byte) = 15
+
+-- the byte that names a kind
+abbrev pub kind_number : Kind → ℕ
+kind_number (Other byte) = byte
+kind_number kind = kind_row kind
 
 -- The table of kinds: a row of 10 for each kind. The number of children; the largest value of each of the bytes 1 to 7, 0
 -- where the kind does not list the byte; whether the kind has a list; whether it has a test.
@@ -90,6 +138,29 @@ fields_allowed v node =
     && (list_allowed (kind_entry (byte_at node 0) 8) node
     && test_allowed v (kind_entry (byte_at node 0) 9) node)))
 
+-- ---- The comparisons
+
+-- the comparison that a byte names: 0 =, 1 ≠, 2 <, 3 ≤, 4 >, 5 ≥; a byte above 5 names none, and is kept
+abbrev pub comparison_from : ℕ → Comparison
+comparison_from byte =
+    if eqb byte 0 then Equal else
+    if eqb byte 1 then Unequal else
+    if eqb byte 2 then Less else
+    if eqb byte 3 then AtMost else
+    if eqb byte 4 then Greater else
+    if eqb byte 5 then AtLeast else
+    Unnamed byte
+
+-- the byte that names a comparison
+abbrev pub comparison_number : Comparison → ℕ
+comparison_number Equal = 0
+comparison_number Unequal = 1
+comparison_number Less = 2
+comparison_number AtMost = 3
+comparison_number Greater = 4
+comparison_number AtLeast = 5
+comparison_number (Unnamed byte) = byte
+
 -- ---- The nodes
 
 abbrev pub plan_version : List ℕ → Version
@@ -102,18 +173,18 @@ node_part plan i = take (node_size (plan_version plan)) (drop (6 + node_size (pl
 unfoldable pub test_of : Version → List ℕ → Test
 test_of v node =
     if eqb (byte_at node 16) 0 then Always else
-    if eqb (byte_at node 16) 1 then Columns (byte_at node 17) (byte_at node 19) (byte_at node 20) else
-    Number (byte_at node 17) (byte_at node 19) (test_number v node)
+    if eqb (byte_at node 16) 1 then Columns (comparison_from (byte_at node 17)) (byte_at node 19) (byte_at node 20) else
+    Number (comparison_from (byte_at node 17)) (byte_at node 19) (test_number v node)
 
 unfoldable pub node_of : Version → List ℕ → Node
 node_of v node =
     record {
-      kind = byte_at node 0;
+      kind = kind_of (byte_at node 0);
       arg = byte_at node 1;
       id = byte_at node 2;
       left = byte_at node 3;
       right = byte_at node 4;
-      comparison = byte_at node 5;
+      comparison = comparison_from (byte_at node 5);
       column = byte_at node 6;
       listed = byte_at node 8;
       list = byte_at node 9 ∷ byte_at node 10 ∷ byte_at node 11 ∷ byte_at node 12 ∷ byte_at node 13 ∷ byte_at node 14 ∷ byte_at node 15 ∷ [];
@@ -140,16 +211,16 @@ nodes_of plan = byte_at plan 5
 unfoldable pub nodes_allowed : Version → ℕ → List ℕ → Bool
 nodes_allowed v n plan = all_below n (λ i. fields_allowed v (node_part plan i))
 
--- How many nodes the plan has, or the refusal's number: 6, 7, 8, 6 again, 9.
-unfoldable pub read_plan_as : Version → List ℕ → PlanRead
+-- How many nodes the plan has, or the refusal: 6, 7, 8, 6 again, 9.
+unfoldable pub read_plan_as : Version → List ℕ → Result ℕ Refusal
 read_plan_as v plan =
-    if ltb (length plan) 6 then Refused 6 else
-    if not (starts_with (plan_mark v) plan) then Refused 7 else
-    if not (leb 1 (nodes_of plan) && leb (nodes_of plan) 64) then Refused 8 else
-    if not (eqb (length plan) (6 + node_size v * nodes_of plan)) then Refused 6 else
-    if not (nodes_allowed v (nodes_of plan) plan) then Refused 9 else
-    Nodes (nodes_of plan)
+    if ltb (length plan) 6 then Err PlanLength else
+    if not (starts_with (plan_mark v) plan) then Err PlanMark else
+    if not (leb 1 (nodes_of plan) && leb (nodes_of plan) 64) then Err NodeCount else
+    if not (eqb (length plan) (6 + node_size v * nodes_of plan)) then Err PlanLength else
+    if not (nodes_allowed v (nodes_of plan) plan) then Err NodeField else
+    Ok (nodes_of plan)
 
 -- what the calls read
-abbrev pub read_plan : List ℕ → PlanRead
+abbrev pub read_plan : List ℕ → Result ℕ Refusal
 read_plan plan = read_plan_as Second plan

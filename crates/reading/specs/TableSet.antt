@@ -1,7 +1,7 @@
 -- The set of tables, and the refusals 1 to 5 (docs/DEFINITION.md, "Cells" and "The set of tables").
 -- A set is a list of bytes: 0 to 8 tables, one after another. A table is looked at as the bytes from its first one on, and its header says its
 -- version. A set is read as one of the two versions, v: all its tables have it. Definitions only.
-use Rattle.std.specs.Prelude.{ℕ, zero, suc, ◌+◌, ◌*◌, ◌/◌, Bool, ◌&&◌, ◌||◌, not, List, [], ◌∷◌, map, length, take, drop, leb, ltb, eqb, if◌then◌else◌}
+use Rattle.std.specs.Prelude.{ℕ, zero, suc, ◌+◌, ◌*◌, ◌/◌, Bool, ◌&&◌, ◌||◌, not, List, [], ◌∷◌, map, length, take, drop, leb, ltb, eqb, if◌then◌else◌, Result, Ok, Err}
 use Rattle.algebra.specs.Lists.{upward}
 use Rattle.algebra.specs.Cells.{blank, off_scale, within_reach}
 use Rattle.algebra.specs.Plans.{Row, Tables}
@@ -9,10 +9,8 @@ use Rattle.reading.specs.Bytes.{byte_at, u16_at, unsigned_at, starts_with, all_b
 use Rattle.reading.specs.Versions.{version_number, version_of, cell_size, reach_of, word_of}
 use Rattle.reading.specs.declared.version.Version.{Version}
 use Rattle.reading.specs.declared.version.Version.TheVariants.{Second}
-use Rattle.reading.specs.declared.set.SetRead.{SetRead}
-use Rattle.reading.specs.declared.set.SetRead.TheVariants.{Holds, Refused}
-use Rattle.reading.specs.declared.set.TableRead.{TableRead}
-use Rattle.reading.specs.declared.set.TableRead.TheVariants.{Whole, Bad}
+use Rattle.reading.specs.declared.refusal.Refusal.{Refusal}
+use Rattle.reading.specs.declared.refusal.Refusal.TheVariants.{TableShort, TableMark, TableSize, CellCode, SetLong}
 
 -- ---- A table's header: 8 bytes
 
@@ -54,33 +52,33 @@ cells_allowed v cells = all_below (length cells / cell_size v) (λ i. cell_allow
 
 -- ---- Reading one table, and the set
 
--- One table: how many bytes it has, or the refusal's number. In the order 1 (header), 2, 3, 1 (cells), 4.
-unfoldable pub read_table : Version → List ℕ → TableRead
+-- One table: how many bytes it has, or the refusal. In the order 1 (header), 2, 3, 1 (cells), 4.
+unfoldable pub read_table : Version → List ℕ → Result ℕ Refusal
 read_table v table =
-    if ltb (length table) 8 then Bad 1 else
-    if not (starts_with (table_mark v) table) then Bad 2 else
-    if not (size_allowed table) then Bad 3 else
-    if ltb (length table) (8 + cell_bytes table) then Bad 1 else
-    if not (cells_allowed v (cells_of table)) then Bad 4 else
-    Whole (8 + cell_bytes table)
+    if ltb (length table) 8 then Err TableShort else
+    if not (starts_with (table_mark v) table) then Err TableMark else
+    if not (size_allowed table) then Err TableSize else
+    if ltb (length table) (8 + cell_bytes table) then Err TableShort else
+    if not (cells_allowed v (cells_of table)) then Err CellCode else
+    Ok (8 + cell_bytes table)
 
-abbrev pub after_table : TableRead → (ℕ → SetRead) → SetRead
-after_table (Bad number) next = Refused number
-after_table (Whole bytes) next = next bytes
+abbrev pub after_table : Result ℕ Refusal → (ℕ → Result ℕ Refusal) → Result ℕ Refusal
+after_table (Err refusal) next = Err refusal
+after_table (Ok bytes) next = next bytes
 
 -- The tables from here on, where `found` were read before and at most `left` may follow. 5 is met first.
-unfoldable pub read_from : Version → ℕ → ℕ → List ℕ → SetRead
-read_from v zero found s = if eqb (length s) 0 then Holds found else Refused 5
+unfoldable pub read_from : Version → ℕ → ℕ → List ℕ → Result ℕ Refusal
+read_from v zero found s = if eqb (length s) 0 then Ok found else Err SetLong
 read_from v (suc left) found s =
-    if eqb (length s) 0 then Holds found else
+    if eqb (length s) 0 then Ok found else
     after_table (read_table v s) (λ bytes. read_from v left (found + 1) (drop bytes s))
 
-unfoldable pub read_set_as : Version → List ℕ → SetRead
+unfoldable pub read_set_as : Version → List ℕ → Result ℕ Refusal
 unfolding read_from
 read_set_as v set = read_from v 8 0 set
 
 -- what the calls read
-abbrev pub read_set : List ℕ → SetRead
+abbrev pub read_set : List ℕ → Result ℕ Refusal
 read_set set = read_set_as Second set
 
 -- ---- Finding table t of a set that was read
@@ -100,9 +98,9 @@ unfoldable pub table_rows : List ℕ → List Row
 table_rows table = map (λ r. map (table_cell table r) (upward (columns_of table) 0)) (upward (rows_of table) 0)
 
 -- how many tables were read
-abbrev pub amount_of : SetRead → ℕ
-amount_of (Holds n) = n
-amount_of (Refused number) = 0
+abbrev pub amount_of : Result ℕ Refusal → ℕ
+amount_of (Ok n) = n
+amount_of (Err refusal) = 0
 
 -- the tables of a set that is known to have so many
 abbrev pub known_tables : ℕ → List ℕ → Tables

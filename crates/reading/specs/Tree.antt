@@ -4,21 +4,25 @@ use Rattle.algebra.specs.Cells.{Comparison, eq, ne, lt, le, gt, ge, sum, least, 
 use Rattle.algebra.specs.Plans.{Form, always, columns_of, number_of, test, Test as MarkedTest, unit, scan, select, project, distinct, group, sort, Binary, cross, semi, quant, fold, each, pair, Plan, leaf, one, two}
 use Rattle.algebra.specs.Places.{Operator, leaf_node, unary_node, binary_node, size}
 use Rattle.reading.specs.Plan.{node_at, nodes_of}
+use Rattle.reading.specs.declared.kinds.Kind.{Kind}
+use Rattle.reading.specs.declared.kinds.Kind.TheVariants.{Unit, Scan, Select, Project, Distinct, Cross, Semi, Anti, Some, Every, Fold, Each, Pair, Group, Sort, Other}
+use Rattle.reading.specs.declared.comparison.Comparison.{Comparison as NamedComparison}
+use Rattle.reading.specs.declared.comparison.Comparison.TheVariants.{Equal, Unequal, Less, AtMost, Greater, AtLeast, Other as Unnamed}
 use Rattle.reading.specs.declared.plan.Test.{Test}
 use Rattle.reading.specs.declared.plan.Test.TheVariants.{Always, Columns, Number}
 use Rattle.reading.specs.declared.plan.Node.{Node}
 
 -- ---- A node's operator
 
--- 0 =, 1 ≠, 2 <, 3 ≤, 4 >, 5 ≥
-abbrev pub comparison_of : ℕ → Comparison
-comparison_of code =
-    if eqb code 0 then eq else
-    if eqb code 1 then ne else
-    if eqb code 2 then lt else
-    if eqb code 3 then le else
-    if eqb code 4 then gt else
-    ge
+-- a byte that names no comparison compares as ≥
+abbrev pub comparison_of : NamedComparison → Comparison
+comparison_of Equal = eq
+comparison_of Unequal = ne
+comparison_of Less = lt
+comparison_of AtMost = le
+comparison_of Greater = gt
+comparison_of AtLeast = ge
+comparison_of (Unnamed byte) = ge
 
 -- 0 count, 1 sum, 2 least, 3 greatest
 abbrev pub aggregate_of : ℕ → ℕ → Aggregate
@@ -42,24 +46,24 @@ node_list node = take node.listed node.list
 abbrev pub node_aggregate : Node → Aggregate
 node_aggregate node = aggregate_of node.arg node.column
 
--- by the kind, as in the table of kinds
-unfoldable pub operator_by : ℕ → Node → Operator
-operator_by kind node =
-    if eqb kind 1 then leaf_node (scan node.arg node.id) else
-    if eqb kind 2 then unary_node (select (node_test node)) else
-    if eqb kind 3 then unary_node (project (node_list node)) else
-    if eqb kind 4 then unary_node (distinct (node_list node)) else
-    if eqb kind 5 then binary_node cross else
-    if eqb kind 6 then binary_node (semi false node.left node.right (node_test node)) else
-    if eqb kind 7 then binary_node (semi true node.left node.right (node_test node)) else
-    if eqb kind 8 then binary_node (quant false (node_test node)) else
-    if eqb kind 9 then binary_node (quant true (node_test node)) else
-    if eqb kind 10 then binary_node (fold (node_aggregate node) node.id (node_test node)) else
-    if eqb kind 11 then binary_node each else
-    if eqb kind 12 then binary_node (pair (node_aggregate node) node.id node.left node.right (comparison_of node.comparison) (node_test node)) else
-    if eqb kind 13 then unary_node (group (node_aggregate node) node.id node.left node.right (comparison_of node.comparison) (node_test node)) else
-    if eqb kind 14 then unary_node (sort (eqb node.arg 1) (node_list node)) else
-    leaf_node unit
+-- by the kind, as in the table of kinds; a byte that names no kind is a Unit
+unfoldable pub operator_by : Kind → Node → Operator
+operator_by Unit node = leaf_node unit
+operator_by Scan node = leaf_node (scan node.arg node.id)
+operator_by Select node = unary_node (select (node_test node))
+operator_by Project node = unary_node (project (node_list node))
+operator_by Distinct node = unary_node (distinct (node_list node))
+operator_by Cross node = binary_node cross
+operator_by Semi node = binary_node (semi false node.left node.right (node_test node))
+operator_by Anti node = binary_node (semi true node.left node.right (node_test node))
+operator_by Some node = binary_node (quant false (node_test node))
+operator_by Every node = binary_node (quant true (node_test node))
+operator_by Fold node = binary_node (fold (node_aggregate node) node.id (node_test node))
+operator_by Each node = binary_node each
+operator_by Pair node = binary_node (pair (node_aggregate node) node.id node.left node.right (comparison_of node.comparison) (node_test node))
+operator_by Group node = unary_node (group (node_aggregate node) node.id node.left node.right (comparison_of node.comparison) (node_test node))
+operator_by Sort node = unary_node (sort (eqb node.arg 1) (node_list node))
+operator_by (Other byte) node = leaf_node unit
 
 abbrev pub operator_of : Node → Operator
 operator_of node = operator_by node.kind node

@@ -8,7 +8,7 @@ ghost use Rattle.reading.specs.Plan.{nodes_of};
 ghost use Rattle.reading.specs.Tree.{operator_of, plan_at};
 ghost use Rattle.reading.specs.Nodes.{operator_bound};
 
-use crate::kinds::children_of;
+use crate::kinds::{Kind, children_of};
 use crate::plan::{Node, node_at};
 use crate::set::{rows_of, table_from};
 use crate::tree::{nodes_of, tree_end};
@@ -46,21 +46,20 @@ fn node_bound(set: &[u8], node: Node, first: u16, second: u16) -> u16
     requires { first ≤ 4097 }
     ensures { result ≡ min (operator_bound (tables_of set.now) (operator_of node) first second) 4097 }
 {
-    let kind = node.kind;
-    match kind {
-        1 => {
+    match node.kind {
+        Kind::Unit | Kind::Other(_) => 1,
+        Kind::Scan => {
             let t = node.arg as usize;
             capped(rows_of(table_from(set, t)))
         }
-        5 => capped_product(first, second),
-        11 => {
+        Kind::Cross => capped_product(first, second),
+        Kind::Each => {
             if second < 1 {
                 return first;
             }
             capped_product(first, second)
         }
-        2..=14 => first,
-        _ => 1,
+        _ => first,
     }
 }
 
@@ -96,13 +95,10 @@ pub fn bound_at(set: &[u8], plan: &[u8], i: usize) -> usize
 pub(crate) fn bounds_low(set: &[u8], plan: &[u8]) -> bool
     ensures { result ≡ all_below (nodes_of plan.now) (λ i. low (tables_of set.now) (plan_at plan.now i)) }
 {
-    let n = nodes_of(plan);
-    let mut i = 0;
-    while i < n {
+    for i in 0..nodes_of(plan) {
         if 4096 < bound_at(set, plan, i) {
             return false;
         }
-        i += 1;
     }
     true
 }

@@ -7,7 +7,7 @@ ghost use Rattle.reading.specs.Plan.{nodes_of};
 ghost use Rattle.reading.specs.Tree.{operator_of, plan_at};
 ghost use Rattle.reading.specs.Nodes.{operator_width};
 
-use crate::kinds::children_of;
+use crate::kinds::{Kind, children_of};
 use crate::plan::{Node, node_at};
 use crate::set::{columns_of, table_from};
 use crate::tree::{nodes_of, tree_end};
@@ -31,21 +31,20 @@ fn node_columns(set: &[u8], node: Node, first: usize, second: usize) -> usize
     requires { (first ≤ 33) × (second ≤ 33) }
     ensures { result ≡ min (operator_width (tables_of set.now) (operator_of node) first second) 33 }
 {
-    let kind = node.kind;
-    match kind {
-        1 => {
+    match node.kind {
+        Kind::Scan => {
             let t = node.arg as usize;
             capped(columns_of(table_from(set, t)))
         }
-        3 | 4 => {
+        Kind::Project | Kind::Distinct => {
             let list = node.list;
             list_length(list, node.listed)
         }
-        5 | 11 => capped(first + second),
-        10 | 12 => capped(first + 1),
-        13 => 2,
-        2 | 6 | 7 | 8 | 9 | 14 => first,
-        _ => 0,
+        Kind::Cross | Kind::Each => capped(first + second),
+        Kind::Fold | Kind::Pair => capped(first + 1),
+        Kind::Group => 2,
+        Kind::Select | Kind::Semi | Kind::Anti | Kind::Some | Kind::Every | Kind::Sort => first,
+        Kind::Unit | Kind::Other(_) => 0,
     }
 }
 
@@ -74,13 +73,10 @@ pub fn columns_at(set: &[u8], plan: &[u8], i: usize) -> usize
 pub(crate) fn rows_narrow(set: &[u8], plan: &[u8]) -> bool
     ensures { result ≡ all_below (nodes_of plan.now) (λ i. narrow (tables_of set.now) (plan_at plan.now i)) }
 {
-    let n = nodes_of(plan);
-    let mut i = 0;
-    while i < n {
+    for i in 0..nodes_of(plan) {
         if 32 < columns_at(set, plan, i) {
             return false;
         }
-        i += 1;
     }
     true
 }

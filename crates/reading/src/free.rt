@@ -1,60 +1,40 @@
 // The columns that the tree at a place names from outside itself, and what the rules ask of them.
-ghost use Rattle.std.specs.Prelude.{◌≡◌, ◌&&◌, eqb};
+ghost use Rattle.std.specs.Prelude.{◌≡◌};
 ghost use Rattle.algebra.specs.Names.{closed, free, measured};
 ghost use Rattle.algebra.specs.Plans.{form_names};
 ghost use Rattle.algebra.specs.Rules.{avoids, local};
 ghost use Rattle.reading.specs.TableSet.{tables_of};
 ghost use Rattle.reading.specs.Tree.{form_of, node_aggregate, node_test, operator_of, plan_at};
 ghost use Rattle.reading.specs.Flags.{Adds, Flags};
-ghost use Rattle.reading.specs.Frees.{Apart, InnerFree, NodeFree, SetWhere, names_of, operator_names};
+ghost use Rattle.reading.specs.Frees.{Apart, InnerFree, NodeFree, SetWhere, operator_names, row_names};
 
 use crate::flags::add_id;
-use crate::kinds::children_of;
+use crate::kinds::{Kind, children_of};
 use crate::plan::{Node, Test, node_at};
 use crate::tree::{nodes_of, tree_end};
 use crate::view::{add_columns, add_list, test_seen};
-
-// What each kind names.
-const NAMES: [u8; 15] = [0, 0, 2, 1, 1, 0, 3, 3, 2, 2, 4, 0, 5, 6, 1];
-
-fn names_of(kind: u8) -> u8
-    ensures { result ≡ names_of kind }
-{
-    let at = kind as usize;
-    if at < 15 { NAMES[at] } else { 0 }
-}
 
 // The flags with a value wherever `at` flags an id.
 fn set_where(flags: [u8; 256], at: [u8; 256], value: u8) -> [u8; 256]
     ensures { SetWhere flags at value result }
 {
     let mut marks = flags;
-    let mut k = 0;
-    while k < 256 {
-        if at[k] == 1 {
+    for (k, flag) in at.iter().enumerate() {
+        if *flag == 1 {
             marks[k] = value;
         }
-        k += 1;
     }
     marks
-}
-
-fn both(a: u8, b: u8) -> bool
-    ensures { result ≡ (eqb a 1 && eqb b 1) }
-{
-    if a == 1 { b == 1 } else { false }
 }
 
 // Whether no id is flagged in both.
 fn apart(flags: [u8; 256], other: [u8; 256]) -> bool
     ensures { Apart flags other result }
 {
-    let mut k = 0;
-    while k < 256 {
-        if both(flags[k], other[k]) {
+    for k in 0..256 {
+        if flags[k] == 1 && other[k] == 1 {
             return false;
         }
-        k += 1;
     }
     true
 }
@@ -89,50 +69,45 @@ fn add_measure(flags: [u8; 256], node: Node) -> [u8; 256]
     add_id(flags, node.column)
 }
 
+// Flags what a node names of a row: its aggregate column and its test's columns.
+fn add_row(flags: [u8; 256], node: Node) -> [u8; 256]
+    ensures { Adds flags (row_names node) result }
+{
+    let test = node.test;
+    add_measure(add_test(flags, test), node)
+}
+
 // The columns that a node names, as flags.
 fn node_names(node: Node) -> [u8; 256]
     ensures { Flags result (operator_names (operator_of node)) }
 {
     let none = [0u8; 256];
-    let named = names_of(node.kind);
-    if named == 0 {
-        return none;
-    }
-    if named == 1 {
-        let list = node.list;
-        return add_list(none, list, node.listed);
-    }
     let test = node.test;
-    let tested = add_test(none, test);
-    if named == 2 {
-        return tested;
+    match node.kind {
+        Kind::Project | Kind::Distinct | Kind::Sort => {
+            let list = node.list;
+            add_list(none, list, node.listed)
+        }
+        Kind::Select | Kind::Some | Kind::Every => add_test(none, test),
+        Kind::Semi | Kind::Anti => add_id(add_id(add_test(none, test), node.right), node.left),
+        Kind::Fold => add_row(none, node),
+        Kind::Pair => add_id(add_id(add_row(none, node), node.right), node.left),
+        Kind::Group => {
+            let key = add_id(none, node.left);
+            add_id(set_where(add_row(none, node), key, 0), node.right)
+        }
+        _ => none,
     }
-    if named == 3 {
-        return add_id(add_id(tested, node.right), node.left);
-    }
-    let row = add_measure(tested, node);
-    if named == 4 {
-        return row;
-    }
-    if named == 5 {
-        return add_id(add_id(row, node.right), node.left);
-    }
-    let key = add_id(none, node.left);
-    add_id(set_where(row, key, 0), node.right)
 }
 
 // What a node's second child names from outside: where it is nested, the columns of the first are inside.
 fn inner_free(node: Node, second: [u8; 256], columns: [u8; 256]) -> [u8; 256]
     ensures { InnerFree (operator_of node) second columns result }
 {
-    let kind = node.kind;
-    if kind < 8 {
-        return second;
+    match node.kind {
+        Kind::Some | Kind::Every | Kind::Fold | Kind::Each => set_where(second, columns, 0),
+        _ => second,
     }
-    if 11 < kind {
-        return second;
-    }
-    set_where(second, columns, 0)
 }
 
 // What a node's tree names from outside, of what its children's trees do and of their columns; a child that is not there has none.

@@ -6,14 +6,15 @@
 pub mod bound;
 pub mod bytes;
 pub mod columns;
+pub mod comparison;
 pub mod flags;
 pub mod free;
 pub mod ids;
 pub mod input;
 pub mod kinds;
 pub mod need;
-pub mod parts;
 pub mod plan;
+pub mod refusal;
 pub mod scan;
 pub mod set;
 pub mod tree;

@@ -10,7 +10,7 @@ ghost use Rattle.reading.specs.Nodes.{capped_share, capped_part};
 
 use crate::bound::bound_at;
 use crate::columns::columns_at;
-use crate::kinds::children_of;
+use crate::kinds::{Kind, children_of};
 use crate::plan::{Node, node_at};
 use crate::tree::{nodes_of, tree_end};
 
@@ -18,9 +18,8 @@ use crate::tree::{nodes_of, tree_end};
 fn has_region(node: Node) -> bool
     ensures { result ≡ has_region (operator_of node) }
 {
-    let kind = node.kind;
-    match kind {
-        2 | 3 | 6 | 7 | 8 | 9 => false,
+    match node.kind {
+        Kind::Select | Kind::Project | Kind::Semi | Kind::Anti | Kind::Some | Kind::Every => false,
         _ => true,
     }
 }

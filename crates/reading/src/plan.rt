@@ -3,7 +3,9 @@ ghost use Rattle.std.specs.Prelude.{◌≡◌, ◌+◌, ◌*◌, ◌≤◌, ◌<
 ghost use Rattle.reading.specs.Plan.{kind_table, test_number, limited, list_allowed, list_ends, test_allowed, count_allowed, fields_allowed, node_part, test_of, node_of, node_at, plan_mark, nodes_allowed, read_plan_as};
 
 use crate::bytes::{byte_at, head, starts_with, tail};
-use crate::kinds::{KIND_TABLE, TEST_LIMITS, kind_entry};
+use crate::comparison::Comparison;
+use crate::kinds::{KIND_TABLE, Kind, TEST_LIMITS, kind_entry};
+use crate::refusal::Refusal;
 use crate::set::{number_as, word, word_of_four};
 use crate::version::{Version, node_size, nodes_in, version_at};
 
@@ -11,24 +13,17 @@ const FIRST_MARK: [u8; 5] = [82, 80, 84, 1, 0];
 // The mark of a version 2 plan.
 pub const PLAN_MARK: [u8; 5] = [82, 80, 84, 2, 0];
 
-// What reading a plan gives: how many nodes it has, or a refusal's number.
-#[derive(Clone, Copy)]
-pub enum PlanRead {
-    Nodes(usize),
-    Refused(u8),
-}
-
 // A node's test, without its not-mark: always; a column with a column; a column with a number, given as a cell's word.
 #[derive(Clone, Copy)]
 pub enum Test {
     Always,
     Columns {
-        comparison: u8,
+        comparison: Comparison,
         left: u8,
         right: u8,
     },
     Number {
-        comparison: u8,
+        comparison: Comparison,
         left: u8,
         number: u64,
     },
@@ -36,12 +31,12 @@ pub enum Test {
 
 #[derive(Clone, Copy)]
 pub struct Node {
-    pub kind: u8,
+    pub kind: Kind,
     pub arg: u8,
     pub id: u8,
     pub left: u8,
     pub right: u8,
-    pub comparison: u8,
+    pub comparison: Comparison,
     pub column: u8,
     pub listed: u8,
     pub list: [u8; 7],
@@ -55,12 +50,10 @@ pub struct Node {
 fn bytes_within(n: usize, bytes: &[u8], limits: &[u8]) -> bool
     ensures { result ≡ limited n bytes.now limits.now }
 {
-    let mut j = 0;
-    while j < n {
+    for j in 0..n {
         if byte_at(limits, j) < byte_at(bytes, j) {
             return false;
         }
-        j += 1;
     }
     true
 }
@@ -87,12 +80,10 @@ fn count_allowed(node: &[u8]) -> bool
 fn list_ends(node: &[u8], listed: usize) -> bool
     ensures { result ≡ list_ends node.now listed }
 {
-    let mut j = listed;
-    while j < 7 {
+    for j in listed..7 {
         if byte_at(node, 9 + j) != 0 {
             return false;
         }
-        j += 1;
     }
     true
 }
@@ -185,12 +176,10 @@ fn nodes_allowed(version: Version, n: usize, plan: &[u8]) -> bool
     requires { n ≤ 64 }
     ensures { result ≡ nodes_allowed version n plan.now }
 {
-    let mut i = 0;
-    while i < n {
+    for i in 0..n {
         if !fields_allowed(version, node_part(plan, i)) {
             return false;
         }
-        i += 1;
     }
     true
 }
@@ -204,31 +193,31 @@ pub fn plan_mark(version: Version) -> [u8; 5]
     }
 }
 
-// Reads the plan's bytes as this version's: its header, and each node's fields.
-pub fn read_plan(version: Version, plan: &[u8]) -> PlanRead
+// Reads the plan's bytes as this version's, its header and each node's fields: how many nodes it has, or a refusal.
+pub fn read_plan(version: Version, plan: &[u8]) -> Result<usize, Refusal>
     ensures { result ≡ read_plan_as version plan.now }
 {
     if plan.len() < 6 {
-        return PlanRead::Refused(6);
+        return Err(Refusal::PlanLength);
     }
     let mark = plan_mark(version);
     if !starts_with(plan, &mark) {
-        return PlanRead::Refused(7);
+        return Err(Refusal::PlanMark);
     }
     let n = byte_at(plan, 5) as usize;
     if n < 1 {
-        return PlanRead::Refused(8);
+        return Err(Refusal::NodeCount);
     }
     if 64 < n {
-        return PlanRead::Refused(8);
+        return Err(Refusal::NodeCount);
     }
     if plan.len() != 6 + node_size(version) * n {
-        return PlanRead::Refused(6);
+        return Err(Refusal::PlanLength);
     }
     if !nodes_allowed(version, n, plan) {
-        return PlanRead::Refused(9);
+        return Err(Refusal::NodeField);
     }
-    PlanRead::Nodes(n)
+    Ok(n)
 }
 
 // ---- A node's value
@@ -241,15 +230,16 @@ fn test_of(version: Version, node: &[u8]) -> Test
     if form == 0 {
         return Test::Always;
     }
+    let comparison = Comparison::from(node[17]);
     if form == 1 {
         return Test::Columns {
-            comparison: node[17],
+            comparison,
             left: node[19],
             right: node[20],
         };
     }
     Test::Number {
-        comparison: node[17],
+        comparison,
         left: node[19],
         number: test_number(version, node),
     }
@@ -259,17 +249,19 @@ fn node_of(version: Version, node: &[u8]) -> Node
     requires { 24 ≤ length node.now }
     ensures { result ≡ node_of version node.now }
 {
+    let kind = Kind::from(node[0]);
+    let comparison = Comparison::from(node[5]);
     let test = test_of(version, node);
     let list = [
         node[9], node[10], node[11], node[12], node[13], node[14], node[15],
     ];
     Node {
-        kind: node[0],
+        kind,
         arg: node[1],
         id: node[2],
         left: node[3],
         right: node[4],
-        comparison: node[5],
+        comparison,
         column: node[6],
         listed: node[8],
         list,
@@ -292,12 +284,12 @@ pub fn node_at(plan: &[u8], i: usize) -> Node
         }
     }
     Node {
-        kind: 0,
+        kind: Kind::Unit,
         arg: 0,
         id: 0,
         left: 0,
         right: 0,
-        comparison: 0,
+        comparison: Comparison::Equal,
         column: 0,
         listed: 0,
         list: [0; 7],

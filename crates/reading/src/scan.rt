@@ -2,6 +2,7 @@
 ghost use Rattle.reading.specs.Tree.{operator_of};
 ghost use Rattle.reading.specs.Nodes.{TableFound, TablesFound};
 
+use crate::kinds::Kind;
 use crate::plan::{Node, node_at};
 use crate::tree::nodes_of;
 
@@ -9,25 +10,20 @@ use crate::tree::nodes_of;
 fn table_found(tables: usize, node: Node) -> bool
     ensures { TableFound tables (operator_of node) result }
 {
-    let kind = node.kind;
-    if kind != 1 {
-        return true;
+    match node.kind {
+        Kind::Scan => (node.arg as usize) < tables,
+        _ => true,
     }
-    let t = node.arg as usize;
-    t < tables
 }
 
 // Whether every node's table is one of so many.
 pub(crate) fn tables_found(tables: usize, plan: &[u8]) -> bool
     ensures { TablesFound tables plan.now result }
 {
-    let n = nodes_of(plan);
-    let mut i = 0;
-    while i < n {
+    for i in 0..nodes_of(plan) {
         if !table_found(tables, node_at(plan, i)) {
             return false;
         }
-        i += 1;
     }
     true
 }

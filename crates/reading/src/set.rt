@@ -2,26 +2,14 @@
 ghost use Rattle.std.specs.Prelude.{◌≡◌, ◌+◌, ◌*◌, ◌≤◌, length, drop, [], ◌∷◌};
 ghost use Rattle.algebra.specs.Cells.{in_range, within_reach};
 ghost use Rattle.reading.specs.Bytes.{unsigned_at};
-ghost use Rattle.reading.specs.Versions.{reach_of, word_of};
+ghost use Rattle.reading.specs.Versions.{cell_size, reach_of, word_of};
+ghost use Rattle.reading.specs.declared.version.Version.{Version};
 ghost use Rattle.reading.specs.declared.version.Version.TheVariants.{First, Second};
 ghost use Rattle.reading.specs.TableSet.{table_mark, columns_of, rows_of, cell_bytes, cells_of, cell_at, cell_allowed, cells_allowed, size_allowed, read_table, read_set_as, table_from};
 
 use crate::bytes::{byte_at, head, starts_with, tail};
+use crate::refusal::Refusal;
 use crate::version::{Version, cell_size, version_at};
-
-// What reading a set gives: how many tables it has, or a refusal's number.
-#[derive(Clone, Copy)]
-pub enum SetRead {
-    Holds(usize),
-    Refused(u8),
-}
-
-// What reading one table gives: how many bytes it has, or a refusal's number.
-#[derive(Clone, Copy)]
-pub enum TableRead {
-    Whole(usize),
-    Bad(u8),
-}
 
 const FIRST_MARK: [u8; 5] = [84, 66, 76, 1, 0];
 
@@ -29,64 +17,59 @@ const SECOND_MARK: [u8; 5] = [84, 66, 76, 2, 0];
 
 // ---- Cells
 
-// The number of four bytes, low byte first.
-fn four_bytes(b0: u8, b1: u8, b2: u8, b3: u8) -> u32
-    ensures { result ≡ b0 + 256 * (b1 + 256 * (b2 + 256 * b3)) }
-{
-    b0 as u32 + 256 * (b1 as u32 + 256 * (b2 as u32 + 256 * (b3 as u32)))
-}
-
 // The word of a version 1 cell's four bytes: its number plus 2^63, 0 for blank, 2^64 - 1 for off scale.
 pub fn word_of_four(b0: u8, b1: u8, b2: u8, b3: u8) -> u64
     ensures { result ≡ word_of First (unsigned_at 4 (b0 ∷ b1 ∷ b2 ∷ b3 ∷ []) 0) }
 {
-    let x = four_bytes(b0, b1, b2, b3) as u64;
+    let x = u32::from_le_bytes([b0, b1, b2, b3]);
     if x == 2147483648 {
         return 0;
     }
     if x == 2147483647 {
         return 18446744073709551615;
     }
-    if x < 2147483648 {
-        x + 9223372036854775808
-    } else {
-        x + 9223372032559808512
-    }
+    x.wrapping_add(2147483648) as u64 + 9223372034707292160
 }
 
-// The word of a version 2 cell's eight bytes: its signed code plus 2^63. Half the range is added to the upper four bytes, without a carry;
-// written so, the compiler reads all eight bytes at once.
+// The word of a version 2 cell's eight bytes: its signed code plus 2^63.
 pub fn word(b0: u8, b1: u8, b2: u8, b3: u8, b4: u8, b5: u8, b6: u8, b7: u8) -> u64
     ensures { result ≡ word_of Second (unsigned_at 8 (b0 ∷ b1 ∷ b2 ∷ b3 ∷ b4 ∷ b5 ∷ b6 ∷ b7 ∷ []) 0) }
 {
-    let low = four_bytes(b0, b1, b2, b3);
-    let high = four_bytes(b4, b5, b6, b7);
-    let upper = if high < 2147483648 {
-        high + 2147483648
-    } else {
-        high - 2147483648
-    };
-    low as u64 + 4294967296 * (upper as u64)
+    u64::from_le_bytes([b0, b1, b2, b3, b4, b5, b6, b7]).wrapping_add(9223372036854775808)
 }
 
-// The word of cell i of a version 1 table's cells; past the last cell it is blank, 0.
-fn first_cell(cells: &[u8], i: usize) -> u64
-    ensures { result ≡ cell_at First cells.now i }
-{
-    if i < cells.len() / 4 {
-        let at = 4 * i;
+// How a version holds a cell. What walks cells is compiled for each format, so that no cell asks for the version.
+trait CellFormat {
+    ghost VERSION: { Version };
+
+    const VERSION: Version;
+
+    // The word of the cell whose bytes begin at a place.
+    fn word_at(cells: &[u8], at: usize) -> u64
+        requires { at + cell_size VERSION ≤ length cells.now }
+        ensures { result ≡ word_of VERSION (unsigned_at (cell_size VERSION) cells.now at) };
+}
+
+struct FirstCells;
+
+struct SecondCells;
+
+impl CellFormat for FirstCells {
+    ghost VERSION = { First };
+
+    const VERSION: Version = Version::First;
+
+    fn word_at(cells: &[u8], at: usize) -> u64 {
         word_of_four(cells[at], cells[at + 1], cells[at + 2], cells[at + 3])
-    } else {
-        0
     }
 }
 
-// .. of a version 2 table's cells.
-fn second_cell(cells: &[u8], i: usize) -> u64
-    ensures { result ≡ cell_at Second cells.now i }
-{
-    if i < cells.len() / 8 {
-        let at = 8 * i;
+impl CellFormat for SecondCells {
+    ghost VERSION = { Second };
+
+    const VERSION: Version = Version::Second;
+
+    fn word_at(cells: &[u8], at: usize) -> u64 {
         word(
             cells[at],
             cells[at + 1],
@@ -97,6 +80,16 @@ fn second_cell(cells: &[u8], i: usize) -> u64
             cells[at + 6],
             cells[at + 7],
         )
+    }
+}
+
+// The word of cell i of a table's cells of this format; past the last cell it is blank, 0.
+fn cell_of<F: CellFormat>(cells: &[u8], i: usize) -> u64
+    ensures { result ≡ cell_at F.VERSION cells.now i }
+{
+    let size = cell_size(F::VERSION);
+    if i < cells.len() / size {
+        F::word_at(cells, size * i)
     } else {
         0
     }
@@ -106,8 +99,8 @@ pub fn cell(version: Version, cells: &[u8], i: usize) -> u64
     ensures { result ≡ cell_at version cells.now i }
 {
     match version {
-        Version::First => first_cell(cells, i),
-        Version::Second => second_cell(cells, i),
+        Version::First => cell_of::<FirstCells>(cells, i),
+        Version::Second => cell_of::<SecondCells>(cells, i),
     }
 }
 
@@ -149,31 +142,14 @@ pub fn cell_allowed(version: Version, w: u64) -> bool
     number_as(version, w)
 }
 
-// Whether each of a version 1 table's cells has an allowed code. Each version has its loop, so that no cell asks for the version.
-fn first_cells_allowed(cells: &[u8]) -> bool
-    ensures { result ≡ cells_allowed First cells.now }
+// Whether each of a table's cells of this format has an allowed code.
+fn codes_allowed<F: CellFormat>(cells: &[u8]) -> bool
+    ensures { result ≡ cells_allowed F.VERSION cells.now }
 {
-    let n = cells.len() / 4;
-    let mut i = 0;
-    while i < n {
-        if !cell_allowed(Version::First, first_cell(cells, i)) {
+    for i in 0..cells.len() / cell_size(F::VERSION) {
+        if !cell_allowed(F::VERSION, cell_of::<F>(cells, i)) {
             return false;
         }
-        i += 1;
-    }
-    true
-}
-
-fn second_cells_allowed(cells: &[u8]) -> bool
-    ensures { result ≡ cells_allowed Second cells.now }
-{
-    let n = cells.len() / 8;
-    let mut i = 0;
-    while i < n {
-        if !cell_allowed(Version::Second, second_cell(cells, i)) {
-            return false;
-        }
-        i += 1;
     }
     true
 }
@@ -182,8 +158,8 @@ fn cells_allowed(version: Version, cells: &[u8]) -> bool
     ensures { result ≡ cells_allowed version cells.now }
 {
     match version {
-        Version::First => first_cells_allowed(cells),
-        Version::Second => second_cells_allowed(cells),
+        Version::First => codes_allowed::<FirstCells>(cells),
+        Version::Second => codes_allowed::<SecondCells>(cells),
     }
 }
 
@@ -233,57 +209,50 @@ fn size_allowed(table: &[u8]) -> bool
     rows_of(table) <= 1000
 }
 
-// Reads the table that starts at a place of the set, as this version's.
-fn read_table(version: Version, set: &[u8], at: usize) -> TableRead
+// Reads the table that starts at a place of the set, as this version's: how many bytes it has, or a refusal.
+fn read_table(version: Version, set: &[u8], at: usize) -> Result<usize, Refusal>
     requires { at ≤ length set.now }
     ensures { result ≡ read_table version (drop at set.now) }
 {
     let table = &set[at..];
     if table.len() < 8 {
-        return TableRead::Bad(1);
+        return Err(Refusal::TableShort);
     }
     let mark = table_mark(version);
     if !starts_with(table, &mark) {
-        return TableRead::Bad(2);
+        return Err(Refusal::TableMark);
     }
     if !size_allowed(table) {
-        return TableRead::Bad(3);
+        return Err(Refusal::TableSize);
     }
     let size = 8 + cell_bytes(table);
     if table.len() < size {
-        return TableRead::Bad(1);
+        return Err(Refusal::TableShort);
     }
     let a = at + 8;
     let b = at + size;
     if !cells_allowed(version, &set[a..b]) {
-        return TableRead::Bad(4);
+        return Err(Refusal::CellCode);
     }
-    TableRead::Whole(size)
+    Ok(size)
 }
 
 // ---- The set
 
-// Reads the whole set as this version's. Each table starts where the last one ended.
-pub fn read_set(version: Version, set: &[u8]) -> SetRead
+// Reads the whole set as this version's: how many tables it has, or a refusal. Each table starts where the last one ended.
+pub fn read_set(version: Version, set: &[u8]) -> Result<usize, Refusal>
     ensures { result ≡ read_set_as version set.now }
 {
     let mut at = 0;
     let mut found = 0;
     while at < set.len() {
         if found == 8 {
-            return SetRead::Refused(5);
+            return Err(Refusal::SetLong);
         }
-        match read_table(version, set, at) {
-            TableRead::Bad(number) => {
-                return SetRead::Refused(number);
-            }
-            TableRead::Whole(size) => {
-                at += size;
-            }
-        }
+        at += read_table(version, set, at)?;
         found += 1;
     }
-    SetRead::Holds(found)
+    Ok(found)
 }
 
 // The part of the set from table t on; nothing past the last table.
@@ -291,12 +260,8 @@ pub fn table_from(set: &[u8], t: usize) -> &[u8]
     ensures { result.now ≡ table_from t set.now }
 {
     let mut rest = set;
-    let mut i = 0;
-    while i < t {
-        let size = 8 + cell_bytes(rest);
-        let next = tail(rest, size);
-        rest = next;
-        i += 1;
+    for _ in 0..t {
+        rest = tail(rest, 8 + cell_bytes(rest));
     }
     rest
 }

@@ -6,29 +6,20 @@ ghost use Rattle.reading.specs.TableSet.{tables_of};
 ghost use Rattle.reading.specs.Plan.{nodes_of};
 ghost use Rattle.reading.specs.Tree.{form_of, node_aggregate, operator_of, plan_at};
 ghost use Rattle.reading.specs.Flags.{Adds, Flagged, Sees, SeesOnce};
-ghost use Rattle.reading.specs.Nodes.{NamesSeen, RootSeen, TreeSeen, first_names, inner_columns, list_names, own_columns, part_of, second_names, test_names};
+ghost use Rattle.reading.specs.Nodes.{NamesSeen, RootSeen, TreeSeen, first_names, inner_columns, list_names, own_columns, second_names, test_names};
 
 use crate::columns::list_length;
 use crate::flags::{add_id, add_ids};
-use crate::kinds::children_of;
-use crate::parts::part_of;
+use crate::kinds::{Kind, children_of};
 use crate::plan::{Node, Test, node_at};
 use crate::set::{columns_of, table_from};
 use crate::tree::{nodes_of, tree_end};
-
-// The place of an id's flag.
-fn place_of(id: u8) -> usize
-    ensures { (result ≡ id) × (result < 256) }
-{
-    id as usize
-}
 
 // Whether an id is flagged.
 fn flagged(flags: [u8; 256], id: u8) -> bool
     ensures { Flagged flags id result }
 {
-    let at = id as usize;
-    flags[at] == 1
+    flags[id as usize] == 1
 }
 
 // Whether a test's columns are flagged.
@@ -61,14 +52,12 @@ fn list_seen(flags: [u8; 256], list: [u8; 7], listed: u8) -> bool
 {
     let count = list_length(list, listed);
     let mut left = flags;
-    let mut j = 0;
-    while j < count {
-        let at = place_of(list[j]);
+    for id in &list[..count] {
+        let at = *id as usize;
         if left[at] != 1 {
             return false;
         }
         left[at] = 0;
-        j += 1;
     }
     true
 }
@@ -79,37 +68,27 @@ pub fn add_list(flags: [u8; 256], list: [u8; 7], listed: u8) -> [u8; 256]
 {
     let count = list_length(list, listed);
     let mut marks = flags;
-    let mut j = 0;
-    while j < count {
-        let at = place_of(list[j]);
-        marks[at] = 1;
-        j += 1;
+    for id in &list[..count] {
+        marks[*id as usize] = 1;
     }
     marks
 }
 
 // Flags the columns that a node gives besides those of its children.
 fn add_own(flags: [u8; 256], set: &[u8], node: Node) -> [u8; 256]
-    ensures { Adds flags (own_columns (part_of node.kind 1) (tables_of set.now) node) result }
+    ensures { Adds flags (own_columns node.kind (tables_of set.now) node) result }
 {
-    let own = part_of(node.kind, 1);
     let id = node.id;
-    if own == 0 {
-        return flags;
+    match node.kind {
+        Kind::Scan => add_ids(flags, id, columns_of(table_from(set, node.arg as usize))),
+        Kind::Project | Kind::Distinct => {
+            let list = node.list;
+            add_list(flags, list, node.listed)
+        }
+        Kind::Fold | Kind::Pair => add_id(flags, id),
+        Kind::Group => add_id(add_id(flags, id), node.left),
+        _ => flags,
     }
-    if own == 1 {
-        let t = node.arg as usize;
-        return add_ids(flags, id, columns_of(table_from(set, t)));
-    }
-    if own == 2 {
-        let list = node.list;
-        return add_list(flags, list, node.listed);
-    }
-    let new = add_id(flags, id);
-    if own == 3 {
-        return new;
-    }
-    add_id(new, node.left)
 }
 
 // Flags the columns of the tree at place i.
@@ -121,16 +100,16 @@ pub fn add_columns(flags: [u8; 256], set: &[u8], plan: &[u8], i: usize) -> [u8; 
     }
     let node = node_at(plan, i);
     let own = add_own(flags, set, node);
-    let kept = part_of(node.kind, 0);
-    if kept == 0 {
-        return own;
+    match node.kind {
+        Kind::Unit | Kind::Scan | Kind::Project | Kind::Distinct | Kind::Group | Kind::Other(_) =>
+            own,
+        Kind::Cross | Kind::Each => {
+            let first = add_columns(own, set, plan, i + 1);
+            let j = tree_end(plan, i + 1);
+            add_columns(first, set, plan, j)
+        }
+        _ => add_columns(own, set, plan, i + 1),
     }
-    let first = add_columns(own, set, plan, i + 1);
-    if kept == 1 {
-        return first;
-    }
-    let j = tree_end(plan, i + 1);
-    add_columns(first, set, plan, j)
 }
 
 // Whether a node's aggregate column is flagged; count has none.
@@ -156,55 +135,58 @@ fn right_seen(flags: [u8; 256], node: Node) -> bool
 
 // Whether what a node names of its first child is flagged.
 fn first_seen(flags: [u8; 256], node: Node) -> bool
-    ensures { Sees flags (first_names (part_of node.kind 2) node) result }
+    ensures { Sees flags (first_names node.kind node) result }
 {
-    let part = part_of(node.kind, 2);
-    if part == 0 {
-        return true;
+    match node.kind {
+        Kind::Semi | Kind::Anti | Kind::Pair => flagged(flags, node.left),
+        Kind::Group => right_seen(flags, node),
+        _ => true,
     }
-    if part == 1 {
-        return flagged(flags, node.left);
-    }
-    right_seen(flags, node)
 }
 
 // Whether what a node names of its second child is flagged.
 fn second_seen(flags: [u8; 256], node: Node) -> bool
-    ensures { Sees flags (second_names (part_of node.kind 3) node) result }
+    ensures { Sees flags (second_names node.kind node) result }
 {
-    let part = part_of(node.kind, 3);
-    if part == 0 {
-        return true;
+    match node.kind {
+        Kind::Semi | Kind::Anti => flagged(flags, node.right),
+        Kind::Fold => measure_seen(flags, node),
+        Kind::Pair => right_seen(flags, node),
+        _ => true,
     }
-    if part == 1 {
-        return flagged(flags, node.right);
-    }
-    if part == 2 {
-        return measure_seen(flags, node);
-    }
-    right_seen(flags, node)
 }
 
 // Whether the columns of a node's test are flagged, where its kind has a test.
 fn tested_seen(flags: [u8; 256], node: Node) -> bool
-    ensures { Sees flags (test_names (part_of node.kind 5) node) result }
+    ensures { Sees flags (test_names node.kind node) result }
 {
-    if part_of(node.kind, 5) == 0 {
-        return true;
+    match node.kind {
+        Kind::Select
+        | Kind::Semi
+        | Kind::Anti
+        | Kind::Some
+        | Kind::Every
+        | Kind::Fold
+        | Kind::Pair
+        | Kind::Group => {
+            let test = node.test;
+            test_seen(flags, test)
+        }
+        _ => true,
     }
-    let test = node.test;
-    test_seen(flags, test)
 }
 
 // Whether the ids of a node's list are flagged, and none stands twice, where its kind has a list.
 fn listed_seen(flags: [u8; 256], node: Node) -> bool
-    ensures { SeesOnce flags (list_names (part_of node.kind 4) node) result }
+    ensures { SeesOnce flags (list_names node.kind node) result }
 {
-    if part_of(node.kind, 4) == 0 {
-        return true;
+    match node.kind {
+        Kind::Project | Kind::Distinct | Kind::Sort => {
+            let list = node.list;
+            list_seen(flags, list, node.listed)
+        }
+        _ => true,
     }
-    let list = node.list;
-    list_seen(flags, list, node.listed)
 }
 
 // Whether a node's names are in view: `first` and `second` flag its children's columns, `seen` all that its test may name.
@@ -250,10 +232,10 @@ fn root_seen(set: &[u8], plan: &[u8], i: usize, scope: [u8; 256]) -> bool
 fn inner_scope(node: Node, scope: [u8; 256], set: &[u8], plan: &[u8], i: usize) -> [u8; 256]
     ensures { Adds scope (inner_columns (operator_of node) (columns (tables_of set.now) (plan_at plan.now i))) result }
 {
-    if part_of(node.kind, 6) == 0 {
-        return scope;
+    match node.kind {
+        Kind::Some | Kind::Every | Kind::Fold | Kind::Each => add_columns(scope, set, plan, i),
+        _ => scope,
     }
-    add_columns(scope, set, plan, i)
 }
 
 // Whether all names of the tree at place i are in view, where `scope` flags the columns of the rows that it is nested in.

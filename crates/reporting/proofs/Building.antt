@@ -1,6 +1,6 @@
 -- The loop over rows: at the front stands what the rows so far gave, each at most `per` rows, and the rows that are left will give the
 -- rest of the answer. Assumes nothing.
-use mathlib.Core.Path.{◌≡◌, refl, sym, ap, ◌∙◌}
+use mathlib.Core.Path.{◌≡◌, refl, sym, ap, ◌∙◌, subst}
 use mathlib.Core.Bool.{Bool, true, false, cond}
 use mathlib.Core.List.{List, [], ◌∷◌, ◌++◌, map, append_assoc, append-nil}
 use Prim.Native.Nat.{ℕ, zero, suc, ◌+◌, ◌*◌, ◌-◌, ◌≤◌, ◌<◌, min}
@@ -43,6 +43,11 @@ pub record Building (f : Row → List Row) (answer : List Row) (per m w wo own :
   pub src_at : src ≡ own + i * w
   pub dst-at : dst ≡ out * wo
   pub so_far : answer ≡ chunk out wo cells ++ flat_map f (chunk (m - i) w (drop src cells))
+
+-- the same at the places themselves
+pub building_places : {f : Row → List Row} {answer : List Row} {per m w wo own : ℕ} {cells : List ℕ} {i out src dst : ℕ} → Building f answer per m w wo own cells i out src dst → Building f answer per m w wo own cells i out (own + i * w) (out * wo)
+building_places {f} {answer} {per} {m} {w} {wo} {own} {cells} {i} {out} {src} p =
+    subst (λ (s : ℕ). Building f answer per m w wo own cells i out s (out * wo)) p.src_at (subst (λ (d : ℕ). Building f answer per m w wo own cells i out src d) p.dst-at p)
 
 module _ {f : Row → List Row} {answer : List Row} {per m w wo own : ℕ} where
   pub building_start : (cells : List ℕ) → answer ≡ flat_map f (chunk m w (drop own cells)) → Building f answer per m w wo own cells 0 0 own 0

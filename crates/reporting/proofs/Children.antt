@@ -1,13 +1,11 @@
 -- What the tree at a place is made of, by the number of its node's children. Assumes nothing.
 use Prim.Native.Nat.{ℕ, ◌+◌, ◌*◌, ◌≤◌, ◌<◌}
-use mathlib.Core.Bool.{Bool, true, false, not, ◌&&◌, true≢false}
-use mathlib.Core.Logic.{◌⊎◌, inl, inr, ⊎_elim}
+use mathlib.Core.Bool.{Bool, true, false, true≢false}
+use mathlib.Core.Logic.{◌⊎◌}
 use mathlib.Core.Path.{◌≡◌, refl, sym, ap, subst}
 use mathlib.Core.List.{List, [], ◌∷◌, ◌++◌}
 use native.Mathlib.Omega.{arith}
-use lib.Dec.{ltb}
 use lib.ListN.{length, length-append}
-use borrow.Author.Tests.{le-ltb}
 use Rattle.algebra.specs.Lists.{flat_map}
 use Rattle.algebra.specs.Plans.{Env, Tables, Leaf, Unary, select, project, distinct, group, sort, Binary, cross, semi, quant, fold, each, pair, Plan, leaf, one, two, bind, unary_columns, columns, nested, around, emit, joined_within, eval, eval_within}
 use Rattle.algebra.specs.Places.{Operator, leaf_node, unary_node, binary_node, size}
@@ -17,8 +15,10 @@ use Rattle.algebra.proofs.Needs.{part-one, part-two, list-narrow}
 use Rattle.reading.specs.Plan.{node_at, nodes_of}
 use Rattle.reading.specs.Tree.{operator_by, operator_of, plan_at}
 use Rattle.reading.specs.Nodes.{arity, operator_nested}
+use Rattle.reading.specs.declared.kinds.Kind.{Kind}
+use Rattle.reading.specs.declared.kinds.Kind.TheVariants.{Cross, Fold, Each, Pair}
 use Rattle.reading.specs.declared.plan.Node.{Node}
-use Rattle.reading.proofs.Operators.{by_kind, kind-above}
+use Rattle.reading.proofs.Operators.{each_kind, one_of, just}
 use Rattle.reading.proofs.Trees.{plan_case, first_tree, second_tree}
 use Rattle.reporting.specs.Rows.{acted, acted_columns, emitted, emitted_columns, emitted_most}
 use Rattle.reporting.specs.Evaluation.{Sound, share_of, nested_row, plain_row, leaf_given, leaf_width, leaf_most}
@@ -155,43 +155,31 @@ most-mono (binary_node each) j k h = omega arith
 most-mono (binary_node (pair g n l r c t)) j k h = omega arith
 
 -- ---- by the kind
-module _ (node : Node) where
-  -- the nested kinds are 8 to 11
-  nested-by : (k : ℕ) → not (ltb k 8) && ltb k 12 ≡ operator_nested (operator_by k node)
+module _ (node : Node) (cs ds : List ℕ) where
+  abbrev pub Wide : ℕ → Kind → Type 0
+  Wide n k = n ≡ length (emitted_columns (operator_by k node) cs ds)
+
+  pub both-wide : (node.kind ≡ Cross) ⊎ (node.kind ≡ Each) → Wide (length cs + length ds) node.kind
   unfolding operator_by
-  nested-by k =
-      by_kind (λ k. not (ltb k 8) && ltb k 12 ≡ operator_nested (operator_by k node)) refl refl refl refl refl refl refl refl refl refl refl refl refl refl refl
-      (λ k h. rw (le-ltb k 8 (omega arith), le-ltb k 12 (omega arith)) (sym (ap operator_nested (kind-above node k h)))) k
+  both-wide =
+      let both : length cs + length ds ≡ length (cs ++ ds) = sym (length-append cs ds) in
+      one_of (Wide (length cs + length ds)) both (just (Wide (length cs + length ds)) both)
 
-  pub nested-kind : not (ltb node.kind 8) && ltb node.kind 12 ≡ operator_nested (operator_of node)
-  nested-kind = nested-by node.kind
+  pub more-wide : (node.kind ≡ Fold) ⊎ (node.kind ≡ Pair) → Wide (length cs + 1) node.kind
+  unfolding operator_by
+  more-wide =
+      let more : length cs + 1 ≡ length (cs ++ (node.id ∷ [])) = sym (length-append cs (node.id ∷ [])) in
+      one_of (Wide (length cs + 1)) more (just (Wide (length cs + 1)) more)
 
-  module _ (cs ds : List ℕ) where
-    abbrev Wide : ℕ → ℕ → Type 0
-    Wide n k = n ≡ length (emitted_columns (operator_by k node) cs ds)
+  -- the others with two children
+  left_by : (k : Kind) → arity (operator_by k node) ≡ 2 → (k ≡ Cross → ⊥) → (k ≡ Each → ⊥) → (k ≡ Fold → ⊥) → (k ≡ Pair → ⊥) → Wide (length cs) k
+  unfolding operator_by
+  left_by =
+      each_kind (λ k. arity (operator_by k node) ≡ 2 → (k ≡ Cross → ⊥) → (k ≡ Each → ⊥) → (k ≡ Fold → ⊥) → (k ≡ Pair → ⊥) → Wide (length cs) k)
+      (λ a b c d e. absurd (omega arith)) (λ a b c d e. absurd (omega arith)) (λ a b c d e. absurd (omega arith)) (λ a b c d e. absurd (omega arith)) (λ a b c d e. absurd (omega arith))
+      (λ a b c d e. absurd (b refl)) (λ a b c d e. refl) (λ a b c d e. refl) (λ a b c d e. refl) (λ a b c d e. refl)
+      (λ a b c d e. absurd (d refl)) (λ a b c d e. absurd (c refl)) (λ a b c d e. absurd (e refl))
+      (λ a b c d e. absurd (omega arith)) (λ a b c d e. absurd (omega arith)) (λ k a b c d e. absurd (omega arith))
 
-    pub both-wide : (node.kind ≡ 5) ⊎ (node.kind ≡ 11) → Wide (length cs + length ds) node.kind
-    unfolding operator_by
-    both-wide =
-        let both : length cs + length ds ≡ length (cs ++ ds) = sym (length-append cs ds) in
-        ⊎_elim (λ e. subst (Wide (length cs + length ds)) (sym e) both) (λ e. subst (Wide (length cs + length ds)) (sym e) both)
-
-    pub more-wide : (node.kind ≡ 10) ⊎ (node.kind ≡ 12) → Wide (length cs + 1) node.kind
-    unfolding operator_by
-    more-wide =
-        let more : length cs + 1 ≡ length (cs ++ (node.id ∷ [])) = sym (length-append cs (node.id ∷ [])) in
-        ⊎_elim (λ e. subst (Wide (length cs + 1)) (sym e) more) (λ e. subst (Wide (length cs + 1)) (sym e) more)
-
-    left_by : (k : ℕ) → arity (operator_by k node) ≡ 2 → ((k ≡ 5) ⊎ (k ≡ 11) → ⊥) → ((k ≡ 10) ⊎ (k ≡ 12) → ⊥) → Wide (length cs) k
-    unfolding operator_by
-    left_by k =
-        by_kind (λ k. arity (operator_by k node) ≡ 2 → ((k ≡ 5) ⊎ (k ≡ 11) → ⊥) → ((k ≡ 10) ⊎ (k ≡ 12) → ⊥) → Wide (length cs) k)
-        (λ a b c. absurd (omega arith)) (λ a b c. absurd (omega arith)) (λ a b c. absurd (omega arith)) (λ a b c. absurd (omega arith)) (λ a b c. absurd (omega arith))
-        (λ a b c. absurd (b (inl refl)))
-        (λ a b c. refl) (λ a b c. refl) (λ a b c. refl) (λ a b c. refl)
-        (λ a b c. absurd (c (inl refl))) (λ a b c. absurd (b (inr refl))) (λ a b c. absurd (c (inr refl)))
-        (λ a b c. absurd (omega arith)) (λ a b c. absurd (omega arith))
-        (λ k h a b c. absurd (omega (arith, ap arity (kind-above node k h)))) k
-
-    pub left-wide : arity (operator_of node) ≡ 2 → ((node.kind ≡ 5) ⊎ (node.kind ≡ 11) → ⊥) → ((node.kind ≡ 10) ⊎ (node.kind ≡ 12) → ⊥) → Wide (length cs) node.kind
-    left-wide = left_by node.kind
+  pub left-wide : arity (operator_of node) ≡ 2 → (node.kind ≡ Cross → ⊥) → (node.kind ≡ Each → ⊥) → (node.kind ≡ Fold → ⊥) → (node.kind ≡ Pair → ⊥) → Wide (length cs) node.kind
+  left-wide = left_by node.kind

@@ -1,12 +1,12 @@
 -- Rows in cells: `chunk k w xs` reads k rows of w cells. Assumes nothing.
 use mathlib.Core.Path.{◌≡◌, refl, sym, ap, ◌∙◌, subst}
-use mathlib.Core.List.{List, [], ◌∷◌, ◌++◌, append-nil}
+use mathlib.Core.List.{List, [], ◌∷◌, ◌++◌}
 use Prim.Native.Nat.{ℕ, zero, suc, ◌+◌, ◌*◌, ◌-◌, ◌≤◌, ◌<◌}
 use native.Mathlib.Nat.{zero-add, suc-add, zero-mul, suc-mul, mul-le-mul_right, add_comm, add-mul}
 use native.Mathlib.Numerals.{add-one}
 use native.Mathlib.Omega.{arith}
-use lib.ListN.{length, take, drop, length-drop, drop_of_length-le}
-use lib.Seq.{take_all, take_at, drop_at, take-take, drop-drop, paste, take-paste, drop-paste, length-take-le}
+use lib.ListN.{length, take, drop, length-drop}
+use lib.Seq.{take_at, drop_at, take-take, drop-drop, paste, take-paste, drop-paste, length-take-le}
 use Rattle.algebra.specs.Plans.{Row}
 use Rattle.reporting.specs.Rows.{chunk, Gives}
 
@@ -42,6 +42,9 @@ module _ {ℓ} {A : Type ℓ} where
 -- a row more
 pub times_suc : (k w : ℕ) → suc k * w ≡ w + k * w
 times_suc k w = suc-mul k w ∙ add_comm (k * w) w
+
+pub next_place : (i w : ℕ) → i * w + w ≡ (i + 1) * w
+next_place i w = rw (add-one i, times_suc i w) (omega arith)
 
 pub length-chunk : (k w : ℕ) (xs : List ℕ) → length (chunk k w xs) ≡ k
 unfolding chunk
@@ -109,12 +112,6 @@ chunk_add (suc k) j w xs =
     ap (λ (n : ℕ). chunk n w xs) (suc-add k j)
     ∙ ap (λ (l : List Row). take w xs ∷ l) (chunk_add k j w (drop w xs))
     ∙ ap (λ (l : List ℕ). take w xs ∷ (chunk k w (drop w xs) ++ chunk j w l)) (drop-drop (k * w) w xs ∙ ap (λ (n : ℕ). drop n xs) (sym (times_suc k w)))
-
-pub paste_all : (n : ℕ) (d s : List ℕ) → length d ≡ n → length s ≡ n → paste d 0 s n ≡ s
-paste_all n d s e f =
-    ap (λ (l : List ℕ). l ++ drop (0 + n) d) (take_all n s (omega arith))
-    ∙ ap (λ (l : List ℕ). s ++ l) (drop_of_length-le d {i = 0 + n} (omega arith))
-    ∙ append-nil s
 
 -- n cells copied to the front
 pub copied : (n : ℕ) (d s cells : List ℕ) → cells ≡ paste d 0 s n → n ≤ length s → take n cells ≡ take n s

@@ -1,18 +1,18 @@
 -- A cell's code fits 64 bits, the next code is written, and the next cell is cleared. Assumes nothing.
-use Prim.Native.Nat.{ℕ, zero, suc, ◌+◌, ◌-◌, ◌≤◌, ◌<◌}
-use mathlib.Core.Path.{◌≡◌, refl, sym, ap, subst, ◌∙◌}
+use Prim.Native.Nat.{ℕ, zero, suc, ◌+◌, ◌-◌, ◌%◌, ◌≤◌, ◌<◌}
+use mathlib.Core.Path.{◌≡◌, refl, ap, ◌∙◌}
 use mathlib.Core.List.{List, [], ◌∷◌, ◌++◌, map}
 use mathlib.Core.Bool.{Bool, true, false, cond}
 use native.Mathlib.Omega.{arith}
 use native.Mathlib.Numerals.{add-one}
-use borrow.Author.Tests.{ltb-true, ltb-false, lt-ltb, le-ltb}
+use borrow.Author.Tests.{ltb-true, ltb-false}
 use lib.Dec.{ltb}
-use lib.IntN.{ℤ, pos, negsuc, ◌-ℤ◌}
+use lib.IntN.{ℤ, pos, negsuc}
 use lib.Signed.{mag}
-use lib.ListN.{length, take, drop, get_or, set, replicate}
+use lib.ListN.{length, take, drop, get_or, set}
 use mir.Syntax.{w64}
 use mir.Val.{SFits, to_z, of_z}
-use mir.Facts.{to_z_pos, to_z-of_z}
+use mir.Facts.{to_z_pos, to_z-neg, to_z-of_z}
 use Rattle.reporting.specs.Report.{code_of}
 
 -- how far from zero a difference lies, by the test that it computes
@@ -25,25 +25,20 @@ code_fits : (w : ℕ) → w < 18446744073709551616 → SFits w64 (code_of w)
 unfolding code_of
 code_fits w h = record { sfits = far (ltb w 9223372036854775808) w h (ltb-true _ _) (λ e. omega (arith, ltb-false w 9223372036854775808 e)) }
 
--- what `-1 - below` computes for a cell below that of 0
-pub code_below : (w : ℕ) → w < 9223372036854775808 → negsuc 0 -ℤ to_z w64 (9223372036854775807 - w) ≡ code_of w
+-- what stands for `cell - 2^63` modulo 2^64 is the code
+pub code-moved : (w : ℕ) → w < 18446744073709551616 → to_z w64 ((w + 9223372036854775808) % 18446744073709551616) ≡ code_of w
 unfolding code_of
-code_below w h = ap (λ (z : ℤ). negsuc 0 -ℤ z) (to_z_pos w64 {n = 9223372036854775807 - w} (omega arith)) ∙ go (9223372036854775807 - w) refl
-  where
-    go : (x : ℕ) → 9223372036854775807 - w ≡ x → negsuc 0 -ℤ pos x ≡ code_of w
-    go zero e = rw (lt-ltb w 9223372036854775808 h) (ap negsuc (omega arith))
-    go (suc x) e = rw (lt-ltb w 9223372036854775808 h) (ap negsuc (omega arith))
-
-pub below-fits : (w : ℕ) → w < 9223372036854775808 → SFits w64 (negsuc 0 -ℤ to_z w64 (9223372036854775807 - w))
-below-fits w h = subst (λ (z : ℤ). SFits w64 z) (sym (code_below w h)) (code_fits w (omega arith))
-
-pub below-back : (w : ℕ) → w < 9223372036854775808 → to_z w64 (of_z w64 (negsuc 0 -ℤ to_z w64 (9223372036854775807 - w))) ≡ code_of w
-below-back w h = ap (λ (z : ℤ). to_z w64 (of_z w64 z)) (code_below w h) ∙ to_z-of_z (code_fits w (omega arith))
-
--- what `cell - 2^63` is for any other
-pub code-above : (w : ℕ) → 9223372036854775808 ≤ w → w < 18446744073709551616 → to_z w64 (w - 9223372036854775808) ≡ code_of w
-unfolding code_of
-code-above w l h = to_z_pos w64 {n = w - 9223372036854775808} (omega arith) ∙ sym (rw (le-ltb w 9223372036854775808 l))
+code-moved w h =
+    (elim (ltb w 9223372036854775808) as (λ b. ltb w 9223372036854775808 ≡ b → to_z w64 ((w + 9223372036854775808) % 18446744073709551616) ≡ cond b (negsuc (9223372036854775808 - suc w)) (pos (w - 9223372036854775808))) [
+      | true ↦ λ e.
+          let l : w < 9223372036854775808 = ltb-true _ _ e in
+          let n : (w + 9223372036854775808) % 18446744073709551616 ≡ 18446744073709551616 - suc (9223372036854775808 - suc w) = omega arith in
+          ap (to_z w64) n ∙ to_z-neg w64 (9223372036854775808 - suc w) (omega arith)
+      | false ↦ λ e.
+          let l : 9223372036854775808 ≤ w = omega (arith, ltb-false _ _ e) in
+          let n : (w + 9223372036854775808) % 18446744073709551616 ≡ w - 9223372036854775808 = omega arith in
+          ap (to_z w64) n ∙ to_z_pos w64 {n = w - 9223372036854775808} (omega arith)
+    ]) refl
 
 -- the first i values are written, and the next one now
 next : {A : Type 0} (f : ℕ → A) (xs : List ℕ) (ys : List A) (i : ℕ) → i < length xs → i < length ys
@@ -56,13 +51,6 @@ next f (x ∷ xs) (y ∷ ys) (suc i) h k = ap (λ zs. f x ∷ zs) (next f xs ys 
 pub written_next : {A : Type 0} (f : ℕ → A) (xs : List ℕ) (ys : List A) (i : ℕ) → i < length xs → i < length ys
     → set (map f (take i xs) ++ drop i ys) i (f (get_or xs i 0)) ≡ map f (take (i + 1) xs) ++ drop (i + 1) ys
 written_next f xs ys i h k = rw add-one (next f xs ys i h k)
-
--- all places of a list are filled
-pub filled : (i : ℕ) (d : List ℕ) → i ≡ length d → replicate i 0 ++ drop i d ≡ replicate (length d) 0
-filled zero [] h = refl
-filled zero (x ∷ d) h = absurd (omega arith)
-filled (suc i) [] h = absurd (omega arith)
-filled (suc i) (x ∷ d) h = ap (λ (t : List ℕ). 0 ∷ t) (filled i d (omega arith))
 
 -- a code that is stored in an `i64` is read back as it is
 pub stored : {z : ℤ} (w : ℕ) → w < 18446744073709551616 → z ≡ code_of w → to_z w64 (of_z w64 z) ≡ code_of w

@@ -1,13 +1,13 @@
 -- How a node's columns are made of its children's, and the ids as they are written. Assumes nothing.
 use Prim.Native.Nat.{ℕ, zero, suc, ◌+◌, ◌≤◌, ◌<◌}
 use mathlib.Core.Bool.{true, and-eq-true_iff}
+use mathlib.Core.Logic.{◌⊎◌}
 use mathlib.Core.Path.{◌≡◌, refl, sym, ap, ap₂, ◌∙◌}
 use mathlib.Core.List.{List, [], ◌∷◌, ◌++◌}
 use native.Mathlib.Numerals.{add-one}
 use native.Mathlib.Omega.{arith}
-use native.Mathlib.Decide.{ℕ_discrete}
-use lib.ListN.{length, take, drop, get_or, set, length-append}
-use lib.Seq.{take-suc, take-suc-set, take-add}
+use lib.ListN.{length, take, drop, set, length-append}
+use lib.Seq.{take-suc-set, take-add}
 use borrow.Author.Tests.{ltb-true}
 use Rattle.algebra.specs.Lists.{all, upward}
 use Rattle.algebra.specs.Plans.{Tables, Unary, select, project, distinct, group, sort, columns}
@@ -18,8 +18,10 @@ use Rattle.reading.specs.Plan.{nodes_of, node_at}
 use Rattle.reading.specs.Tree.{operator_by, operator_of, operator_at, plan_at, node_list}
 use Rattle.reading.specs.TableSet.{columns_of, table_from, tables_of}
 use Rattle.reading.specs.Nodes.{operator_columns, operator_new}
+use Rattle.reading.specs.declared.kinds.Kind.{Kind}
+use Rattle.reading.specs.declared.kinds.Kind.TheVariants.{Scan, Project, Distinct, Group}
 use Rattle.reading.specs.declared.plan.Node.{Node}
-use Rattle.reading.proofs.Operators.{by_kind, kind-above}
+use Rattle.reading.proofs.Operators.{each_kind, one_of, just}
 use Rattle.reading.proofs.Places.{upward-more}
 use Rattle.reading.proofs.Trees.{plan_past, plan_case, first_tree, second_tree, second_at}
 use Rattle.reading.proofs.Ends.{end_at}
@@ -33,9 +35,6 @@ module _ (ids : List ℕ) (k v : ℕ) (h : k < length ids) where
   written-id : take (k + 1) (set ids k v) ≡ take k ids ++ (v ∷ [])
   written-id = rw add-one (take-suc-set ids k v h)
 
-pub copied-id : (ids list : List ℕ) (k : ℕ) → take k ids ≡ take k list → k < length ids → k < length list → take (k + 1) (set ids k (get_or list k 0)) ≡ take (k + 1) list
-copied-id ids list k e h g = written-id ids k (get_or list k 0) h ∙ ap (λ (l : List ℕ). l ++ (get_or list k 0 ∷ [])) e ∙ sym (rw add-one (take-suc list k 0 g))
-
 pub next-id : (ids : List ℕ) (first k : ℕ) → take k ids ≡ upward k first → k < length ids → take (k + 1) (set ids k (first + k)) ≡ upward (k + 1) first
 next-id ids first k e h = written-id ids k (first + k) h ∙ ap (λ (l : List ℕ). l ++ ((first + k) ∷ [])) e ∙ sym (upward-more k first)
 
@@ -46,57 +45,42 @@ byte-upward (suc n) first (suc k) h l = omega (arith, byte-upward n (suc first) 
 
 -- ---- by the kind
 
--- the ways of the fifteen kinds
-abbrev ways : List ℕ
-ways = 0 ∷ 0 ∷ 1 ∷ 0 ∷ 0 ∷ 3 ∷ 1 ∷ 1 ∷ 1 ∷ 1 ∷ 2 ∷ 3 ∷ 2 ∷ 0 ∷ 1 ∷ []
-
-pub way_past : (node : Node) (k : ℕ) → 14 < k → 0 ≡ columns_way (operator_by k node)
-way_past node k h = sym (ap columns_way (kind-above node k h))
-
-pub way_of : (node : Node) (k : ℕ) → k < 15 → get_or ways k 0 ≡ columns_way (operator_by k node)
-unfolding operator_by
-way_of node k =
-    by_kind (λ k. k < 15 → get_or ways k 0 ≡ columns_way (operator_by k node))
-    (λ h. refl) (λ h. refl) (λ h. refl) (λ h. refl) (λ h. refl) (λ h. refl) (λ h. refl) (λ h. refl) (λ h. refl) (λ h. refl) (λ h. refl) (λ h. refl) (λ h. refl) (λ h. refl) (λ h. refl)
-    (λ k g h. absurd (omega arith)) k
-
 -- a node's own columns
 module _ (set : List ℕ) (node : Node) where
-  abbrev own_by : ℕ → List ℕ
+  abbrev own_by : Kind → List ℕ
   own_by k = own_columns (tables_of set) (operator_by k node)
 
-  pub own-scan : node.kind ≡ 1 → own_by node.kind ≡ upward (columns_of (table_from node.arg set)) node.id
+  pub own-scan : node.kind ≡ Scan → own_by node.kind ≡ upward (columns_of (table_from node.arg set)) node.id
   unfolding operator_by
   own-scan e = ap own_by e
 
-  pub new_scan : node.kind ≡ 1 → operator_new (tables_of set) (operator_by node.kind node) ≡ upward (columns_of (table_from node.arg set)) node.id
+  pub new_scan : node.kind ≡ Scan → operator_new (tables_of set) (operator_by node.kind node) ≡ upward (columns_of (table_from node.arg set)) node.id
   unfolding operator_by
-  new_scan e = ap (λ (k : ℕ). operator_new (tables_of set) (operator_by k node)) e
+  new_scan e = ap (λ (k : Kind). operator_new (tables_of set) (operator_by k node)) e
 
-  pub own-group : node.kind ≡ 13 → own_by node.kind ≡ node.left ∷ node.id ∷ []
+  pub own-group : node.kind ≡ Group → own_by node.kind ≡ node.left ∷ node.id ∷ []
   unfolding operator_by
   own-group e = ap own_by e
 
-  pub own-list : 3 ≤ node.kind → node.kind < 5 → own_by node.kind ≡ node_list node
+  pub own-list : (node.kind ≡ Project) ⊎ (node.kind ≡ Distinct) → own_by node.kind ≡ node_list node
   unfolding operator_by
-  own-list a b = elim (ℕ_discrete node.kind 3) [
-    | yes e ↦ ap own_by e
-    | no d ↦ let e : node.kind ≡ 4 = omega arith in ap own_by e
-  ]
+  own-list =
+      let P : Kind → Type 0 = λ k. own_by k ≡ node_list node in
+      one_of P refl (just P refl)
 
-  pub own-none : (node.kind ≡ 1 → ⊥) → (node.kind ≡ 3 → ⊥) → (node.kind ≡ 4 → ⊥) → (node.kind ≡ 13 → ⊥) → columns_way (operator_of node) ≡ 0 → own_by node.kind ≡ []
+  pub own-none : (node.kind ≡ Scan → ⊥) → (node.kind ≡ Project → ⊥) → (node.kind ≡ Distinct → ⊥) → (node.kind ≡ Group → ⊥) → columns_way (operator_of node) ≡ 0 → own_by node.kind ≡ []
   unfolding operator_by
   own-none =
-      by_kind (λ k. (k ≡ 1 → ⊥) → (k ≡ 3 → ⊥) → (k ≡ 4 → ⊥) → (k ≡ 13 → ⊥) → columns_way (operator_by k node) ≡ 0 → own_by k ≡ [])
+      each_kind (λ k. (k ≡ Scan → ⊥) → (k ≡ Project → ⊥) → (k ≡ Distinct → ⊥) → (k ≡ Group → ⊥) → columns_way (operator_by k node) ≡ 0 → own_by k ≡ [])
       (λ a b c d e. refl) (λ a b c d e. absurd (a refl)) (λ a b c d e. refl) (λ a b c d e. absurd (b refl)) (λ a b c d e. absurd (c refl))
       (λ a b c d e. refl) (λ a b c d e. refl) (λ a b c d e. refl) (λ a b c d e. refl) (λ a b c d e. refl) (λ a b c d e. absurd (omega arith))
       (λ a b c d e. refl) (λ a b c d e. absurd (omega arith)) (λ a b c d e. absurd (d refl)) (λ a b c d e. refl)
-      (λ k h a b c d e. ap (own_columns (tables_of set)) (kind-above node k h)) node.kind
+      (λ k a b c d e. refl) node.kind
 
 -- ---- the columns of a tree
 
 -- what the way says, cs and ds the children's columns
-abbrev made : Tables → Node → List ℕ → List ℕ → ℕ → ℕ → List ℕ
+abbrev made : Tables → Node → List ℕ → List ℕ → Kind → ℕ → List ℕ
 made T node cs ds k zero = own_columns T (operator_by k node)
 made T node cs ds k (suc zero) = cs
 made T node cs ds k (suc (suc zero)) = cs ++ (node.id ∷ [])
@@ -104,24 +88,20 @@ made T node cs ds k (suc (suc (suc zero))) = cs ++ ds
 made T node cs ds k (suc (suc (suc (suc way)))) = cs
 
 module _ (T : Tables) (node : Node) (cs ds : List ℕ) where
-  made_by : (k : ℕ) → operator_columns T (operator_by k node) cs ds ≡ made T node cs ds k (columns_way (operator_by k node))
+  made_by : (k : Kind) → operator_columns T (operator_by k node) cs ds ≡ made T node cs ds k (columns_way (operator_by k node))
   unfolding operator_by
-  made_by k =
-      by_kind (λ k. operator_columns T (operator_by k node) cs ds ≡ made T node cs ds k (columns_way (operator_by k node)))
-      refl refl refl refl refl refl refl refl refl refl refl refl refl refl refl
-      above k
-    where
-      above : (k : ℕ) → 14 < k → operator_columns T (operator_by k node) cs ds ≡ made T node cs ds k (columns_way (operator_by k node))
-      above k h = ap (λ op. operator_columns T op cs ds) (kind-above node k h) ∙ sym (ap (made T node cs ds k) (ap columns_way (kind-above node k h)) ∙ ap (own_columns T) (kind-above node k h))
+  made_by =
+      each_kind (λ k. operator_columns T (operator_by k node) cs ds ≡ made T node cs ds k (columns_way (operator_by k node)))
+      refl refl refl refl refl refl refl refl refl refl refl refl refl refl refl (λ k. refl)
 
-  made-first : (k way : ℕ) → (way ≡ 0 → ⊥) → (way ≡ 2 → ⊥) → (way ≡ 3 → ⊥) → made T node cs ds k way ≡ cs
+  made-first : (k : Kind) (way : ℕ) → (way ≡ 0 → ⊥) → (way ≡ 2 → ⊥) → (way ≡ 3 → ⊥) → made T node cs ds k way ≡ cs
   made-first k zero a b c = absurd (a refl)
   made-first k (suc zero) a b c = refl
   made-first k (suc (suc zero)) a b c = absurd (b refl)
   made-first k (suc (suc (suc zero))) a b c = absurd (c refl)
   made-first k (suc (suc (suc (suc way)))) a b c = refl
 
-  made-fits : (k way : ℕ) → (way ≡ 0 → ⊥) → length cs ≤ length (made T node cs ds k way)
+  made-fits : (k : Kind) (way : ℕ) → (way ≡ 0 → ⊥) → length cs ≤ length (made T node cs ds k way)
   made-fits k zero a = absurd (a refl)
   made-fits k (suc zero) a = omega arith
   made-fits k (suc (suc zero)) a = simp length-append (omega arith)

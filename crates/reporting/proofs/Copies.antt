@@ -2,7 +2,7 @@
 use mathlib.Core.Path.{◌≡◌, refl, sym, ap, ◌∙◌}
 use mathlib.Core.List.{List, [], ◌∷◌, ◌++◌}
 use Prim.Native.Nat.{ℕ, ◌+◌, ◌-◌, ◌≤◌, ◌<◌}
-use native.Mathlib.Nat.{add-zero, zero-add}
+use native.Mathlib.Nat.{add-zero}
 use native.Mathlib.Numerals.{add-one}
 use native.Mathlib.Omega.{arith}
 use lib.ListN.{length, take, drop, get_or, set, length-drop}
@@ -31,14 +31,6 @@ copied_more d cells src dst i e h₁ h₂ =
     ∙ ap (λ (v : ℕ). set (paste d dst s i) (dst + i) v) (paste-beyond d dst s i (src + i) (omega arith) (omega arith) (omega arith) ∙ sym (get_or-drop src d i 0))
     ∙ paste-suc d dst s i 0 (omega arith) (omega arith)
     ∙ ap (λ (k : ℕ). paste d dst s k) (sym (add-one i))
-
--- one more cell is copied to the front
-pub copied_in_more : (d cells s : List ℕ) (i : ℕ) → cells ≡ paste d 0 s i → i < length d → i < length s → set cells i (get_or s i 0) ≡ paste d 0 s (i + 1)
-copied_in_more d cells s i e h₁ h₂ =
-    ap (λ (l : List ℕ). set l i (get_or s i 0)) e
-    ∙ ap (λ (k : ℕ). set (paste d 0 s i) k (get_or s i 0)) (sym (zero-add i))
-    ∙ paste-suc d 0 s i 0 (omega arith) h₂
-    ∙ ap (paste d 0 s) (sym (add-one i))
 
 -- ---- rows written
 

@@ -1,26 +1,26 @@
 -- What one left row gives, by the node's kind. Assumes nothing.
 use mathlib.Core.Path.{◌≡◌, refl, sym, ap, ap₂, ◌∙◌, subst, fun_ext}
-use mathlib.Core.Bool.{Bool, true, false, not, cond, ◌&&◌, ◌||◌}
+use mathlib.Core.Bool.{Bool, true, false, not, cond, ◌&&◌}
 use mathlib.Core.List.{List, [], ◌∷◌, ◌++◌}
-use mathlib.Core.Logic.{◌⊎◌, ⊎_elim}
+use mathlib.Core.Logic.{◌⊎◌, inl, inr, ⊎_elim}
 use Prim.Native.Nat.{ℕ, zero, suc, ◌+◌, ◌*◌, ◌-◌, ◌≤◌, ◌<◌, max}
 use native.Mathlib.Omega.{arith}
-use borrow.Author.Tests.{ne_eqb}
-use lib.Dec.{eqb}
 use lib.ListN.{length, take, drop, length-append, length-drop, replicate}
 use lib.Seq.{paste}
 use borrow.Rule.Slice.PartMut.{put_mid, take_put}
 use Rattle.algebra.specs.Lists.{flip, any}
-use Rattle.algebra.specs.Cells.{compares, aggregate}
+use Rattle.algebra.specs.Cells.{aggregate}
 use Rattle.algebra.specs.Plans.{Row, Env, bind, holds, emit_within}
 use Rattle.algebra.proofs.Lists.{all_any}
+use Rattle.reading.specs.declared.kinds.Kind.{Kind}
+use Rattle.reading.specs.declared.kinds.Kind.TheVariants.{Cross, Semi, Anti, Some, Every, Fold, Each, Pair}
 use Rattle.reading.specs.declared.plan.Node.{Node}
-use Rattle.reading.specs.Tree.{comparison_of, aggregate_of, operator_by, operator_of, node_test}
+use Rattle.reading.specs.Tree.{operator_by, operator_of, node_test}
 use Rattle.reading.specs.Nodes.{arity}
-use Rattle.reading.proofs.Operators.{by_kind, kind-above}
+use Rattle.reading.proofs.Operators.{each_kind, one_of, just}
 use Rattle.reporting.specs.Rows.{chunk, row_at, rows_from, Gives, passing, aggregate_in, gathered, emitted}
-use Rattle.reporting.specs.Keys.{has_test, has_keys, key_comparison, keys_hold}
-use Rattle.reporting.specs.Sides.{side_cell, in_both, condition_holds, FoundInside, meets, found_cell, FoundFor, turned_test, turned_found, keeps_row}
+use Rattle.reporting.specs.Keys.{has_test, keeps_rows, has_keys, key_comparison, keys_hold}
+use Rattle.reporting.specs.Sides.{aggregate_by, in_both, compared_holds, condition_holds, FoundInside, meets, found_cell, FoundFor, turned_test, turned_found, is_anti, keeps_row}
 use Rattle.reporting.specs.Written.{Written, Emitted, joined_rows, JoinGiven, EachGiven}
 use Rattle.reporting.specs.Evaluation.{StepRoom, PlainStep, EmitGiven}
 use Rattle.reporting.specs.declared.side.Condition.{Condition}
@@ -77,28 +77,32 @@ wider {rows} {w} {w'} {most} {r} {dst} {rest} {c} {d} e g = subst (λ n. Emitted
 
 -- ---- by the node's kind
 
--- the kinds with two children
-module _ (node : Node) where
-  two-by : (k : ℕ) → arity (operator_by k node) ≡ 2 → (5 ≤ k) × (k ≤ 12)
-  unfolding operator_by
-  two-by =
-      by_kind (λ k. arity (operator_by k node) ≡ 2 → (5 ≤ k) × (k ≤ 12))
-      (λ e. absurd (omega arith)) (λ e. absurd (omega arith)) (λ e. absurd (omega arith)) (λ e. absurd (omega arith)) (λ e. absurd (omega arith))
-      (λ e. omega arith) (λ e. omega arith) (λ e. omega arith) (λ e. omega arith) (λ e. omega arith) (λ e. omega arith) (λ e. omega arith) (λ e. omega arith)
-      (λ e. absurd (omega arith)) (λ e. absurd (omega arith))
-      (λ k h e. let z : ◌≡◌ {A = ℕ} 0 2 = sym (ap arity (kind-above node k h)) ∙ e in absurd (omega arith))
+-- the kinds that keep rows
+abbrev pub KeepsRows : Kind → Type 0
+KeepsRows k = (k ≡ Semi) ⊎ ((k ≡ Anti) ⊎ ((k ≡ Some) ⊎ (k ≡ Every)))
 
-  pub two-children : arity (operator_of node) ≡ 2 → (5 ≤ node.kind) × (node.kind ≤ 12)
-  two-children = two-by node.kind
+pub keeps_of : {k : Kind} → KeepsRows k → keeps_rows k ≡ true
+unfolding keeps_rows
+keeps_of {k} =
+    let P : Kind → Type 0 = λ k. keeps_rows k ≡ true in
+    one_of P refl (one_of P refl (one_of P refl (just P refl)))
+
+-- .. which are the others with two children
+keeping_by : (node : Node) (k : Kind) → arity (operator_by k node) ≡ 2 → (k ≡ Cross → ⊥) → (k ≡ Each → ⊥) → (k ≡ Fold → ⊥) → (k ≡ Pair → ⊥) → KeepsRows k
+unfolding operator_by
+keeping_by node =
+    each_kind (λ k. arity (operator_by k node) ≡ 2 → (k ≡ Cross → ⊥) → (k ≡ Each → ⊥) → (k ≡ Fold → ⊥) → (k ≡ Pair → ⊥) → KeepsRows k)
+    (λ e a b c d. absurd (omega arith)) (λ e a b c d. absurd (omega arith)) (λ e a b c d. absurd (omega arith)) (λ e a b c d. absurd (omega arith)) (λ e a b c d. absurd (omega arith))
+    (λ e a b c d. absurd (a refl)) (λ e a b c d. inl refl) (λ e a b c d. inr (inl refl)) (λ e a b c d. inr (inr (inl refl))) (λ e a b c d. inr (inr (inr refl)))
+    (λ e a b c d. absurd (c refl)) (λ e a b c d. absurd (b refl)) (λ e a b c d. absurd (d refl))
+    (λ e a b c d. absurd (omega arith)) (λ e a b c d. absurd (omega arith)) (λ k e a b c d. absurd (omega arith))
+
+pub keeping_kind : (node : Node) → arity (operator_of node) ≡ 2 → (node.kind ≡ Cross → ⊥) → (node.kind ≡ Each → ⊥) → (node.kind ≡ Fold → ⊥) → (node.kind ≡ Pair → ⊥) → KeepsRows node.kind
+keeping_kind node = keeping_by node node.kind
 
 -- a fact of the four kinds that keep rows
-by-keeping : (P : ℕ → Type 0) → P 6 → P 7 → P 8 → P 9 → (k : ℕ) → 6 ≤ k → k ≤ 9 → P k
-by-keeping P a b c d =
-    by_kind (λ k. 6 ≤ k → k ≤ 9 → P k)
-    (λ h g. absurd (omega arith)) (λ h g. absurd (omega arith)) (λ h g. absurd (omega arith)) (λ h g. absurd (omega arith)) (λ h g. absurd (omega arith)) (λ h g. absurd (omega arith))
-    (λ h g. a) (λ h g. b) (λ h g. c) (λ h g. d)
-    (λ h g. absurd (omega arith)) (λ h g. absurd (omega arith)) (λ h g. absurd (omega arith)) (λ h g. absurd (omega arith)) (λ h g. absurd (omega arith))
-    (λ k l h g. absurd (omega arith))
+by-keeping : (P : Kind → Type 0) → P Semi → P Anti → P Some → P Every → (k : Kind) → KeepsRows k → P k
+by-keeping P a b c d k = one_of P a (one_of P b (one_of P c (just P d)))
 
 -- ---- the rows that are kept
 
@@ -110,98 +114,114 @@ turned-flip false b = refl
 
 turned-holds : (c : Condition) (l r : Row) → condition_holds (turned_test c) l r ≡ not (condition_holds c l r)
 unfolding condition_holds
-turned-holds c l r = turned-flip c.negated (c.always || compares (comparison_of c.comparison) (side_cell c.left l r) (side_cell c.right l r))
+turned-holds c l r = turned-flip c.negated (compared_holds c.compared l r)
 
 pub turned-inside : (f : Found) (w v : ℕ) → FoundInside f w v → FoundInside (turned_found f) w v
-turned-inside f w v p = record { keys = p.keys; test = record { left = p.test.left; right = p.test.right }; measured = p.measured }
+turned-inside f w v p = record { keys = p.keys; test = record { compared = p.test.compared }; measured = p.measured }
 
 -- by the kind, as it is asked
-pub keeps_every : (kind : ℕ) (f : Found) (l : Row) (rs : List Row) → kind ≡ 9 → keeps_row kind f l rs ≡ not (any (meets (turned_found f) l) rs)
+pub keeps_every : (kind : Kind) (f : Found) (l : Row) (rs : List Row) → kind ≡ Every → keeps_row kind f l rs ≡ not (any (meets (turned_found f) l) rs)
 unfolding keeps_row
 keeps_every kind f l rs e = rw e
 
-pub keeps_other : (kind : ℕ) (f : Found) (l : Row) (rs : List Row) → (kind ≡ 9 → ⊥) → keeps_row kind f l rs ≡ flip (eqb kind 7) (any (meets f l) rs)
+pub keeps_anti : (kind : Kind) (f : Found) (l : Row) (rs : List Row) → kind ≡ Anti → keeps_row kind f l rs ≡ not (any (meets f l) rs)
 unfolding keeps_row
-keeps_other kind f l rs h = rw (ne_eqb kind 9 h)
+keeps_anti kind f l rs e = rw e
+
+pub keeps_other : (kind : Kind) (f : Found) (l : Row) (rs : List Row) → (kind ≡ Every → ⊥) → (kind ≡ Anti → ⊥) → keeps_row kind f l rs ≡ any (meets f l) rs
+unfolding keeps_row
+keeps_other kind f l rs =
+    each_kind (λ k. (k ≡ Every → ⊥) → (k ≡ Anti → ⊥) → keeps_row k f l rs ≡ any (meets f l) rs)
+    (λ a b. refl) (λ a b. refl) (λ a b. refl) (λ a b. refl) (λ a b. refl) (λ a b. refl) (λ a b. refl) (λ a b. absurd (b refl))
+    (λ a b. refl) (λ a b. absurd (a refl)) (λ a b. refl) (λ a b. refl) (λ a b. refl) (λ a b. refl) (λ a b. refl) (λ k a b. refl) kind
+
+pub keyed_row : (kind : Kind) (f : Found) (l : Row) (rs : List Row) → (kind ≡ Semi) ⊎ (kind ≡ Anti) → keeps_row kind f l rs ≡ flip (is_anti kind) (any (meets f l) rs)
+unfolding keeps_row
+keyed_row kind f l rs =
+    let P : Kind → Type 0 = λ k. keeps_row k f l rs ≡ flip (is_anti k) (any (meets f l) rs) in
+    one_of P refl (just P refl)
 
 -- only the front of the left row is read
 any_left : (f : Found) (w v : ℕ) (l : Row) (rs : List Row) → FoundInside f w v → any (meets f (take w l)) rs ≡ any (meets f l) rs
 any_left f w v l rs p = ap (λ (m : Row → Bool). any m rs) (fun_ext (λ r. meets-left w v l r f p))
 
-keeps_left : (kind : ℕ) (f : Found) (w v : ℕ) (l : Row) (rs : List Row) → FoundInside f w v → keeps_row kind f (take w l) rs ≡ keeps_row kind f l rs
+keeps_left : (kind : Kind) (f : Found) (w v : ℕ) (l : Row) (rs : List Row) → FoundInside f w v → keeps_row kind f (take w l) rs ≡ keeps_row kind f l rs
 unfolding keeps_row
-keeps_left kind f w v l rs p = rw (any_left f w v l rs p, any_left (turned_found f) w v l rs (turned-inside f w v p))
+keeps_left kind f w v l rs p =
+    let same = any_left f w v l rs p in
+    each_kind (λ k. keeps_row k f (take w l) rs ≡ keeps_row k f l rs)
+    same same same same same same same (ap not same) same (ap not (any_left (turned_found f) w v l rs (turned-inside f w v p))) same same same same same (λ k. same) kind
 
 -- a node whose columns are found
 module _ (node : Node) (cs ds : List ℕ) (env : Env) (f : Found) (found : FoundFor node cs ds env f) where
   module _ (l : Row) (rs : List Row) where
-    abbrev KeysFound : ℕ → Type 0
+    abbrev KeysFound : Kind → Type 0
     KeysFound k = (r : Row) → condition_holds f.keys l r ≡ keys_hold k node (in_both cs ds env l r)
 
-    abbrev Keeps : ℕ → Type 0
+    abbrev Keeps : Kind → Type 0
     Keeps k = emitted (operator_by k node) ds l (bind cs l env) rs ≡ cond (keeps_row k f l rs) (l ∷ []) []
 
     -- what is asked of a right row, and this under the other not-mark
-    asked : (k : ℕ) → KeysFound k → (λ r. keys_hold k node (in_both cs ds env l r) && holds (node_test node) (in_both cs ds env l r)) ≡ meets f l
+    asked : (k : Kind) → KeysFound k → (λ r. keys_hold k node (in_both cs ds env l r) && holds (node_test node) (in_both cs ds env l r)) ≡ meets f l
     asked k h = fun_ext (λ r. ap₂ ◌&&◌ (sym (h r)) (sym (found.test l r)))
 
-    asked-turned : (k : ℕ) → KeysFound k → (λ r. keys_hold k node (in_both cs ds env l r) && not (holds (node_test node) (in_both cs ds env l r))) ≡ meets (turned_found f) l
+    asked-turned : (k : Kind) → KeysFound k → (λ r. keys_hold k node (in_both cs ds env l r) && not (holds (node_test node) (in_both cs ds env l r))) ≡ meets (turned_found f) l
     asked-turned k h = fun_ext (λ r. ap₂ ◌&&◌ (sym (h r)) (ap not (sym (found.test l r)) ∙ sym (turned-holds f.test l r)))
 
-    keeps_by : (k : ℕ) → 6 ≤ k → k ≤ 9 → KeysFound k → Keeps k
+    keeps_by : (k : Kind) → KeepsRows k → KeysFound k → Keeps k
     unfolding operator_by emitted emit_within has_keys key_comparison keys_hold keeps_row
     keeps_by =
         by-keeping (λ k. KeysFound k → Keeps k)
-        (λ h. ap (λ (m : Row → Bool). cond (any m rs) (l ∷ []) []) (asked 6 h))
-        (λ h. ap (λ (m : Row → Bool). cond (not (any m rs)) (l ∷ []) []) (asked 7 h))
-        (λ h. ap (λ (m : Row → Bool). cond (any m rs) (l ∷ []) []) (asked 8 h))
+        (λ h. ap (λ (m : Row → Bool). cond (any m rs) (l ∷ []) []) (asked Semi h))
+        (λ h. ap (λ (m : Row → Bool). cond (not (any m rs)) (l ∷ []) []) (asked Anti h))
+        (λ h. ap (λ (m : Row → Bool). cond (any m rs) (l ∷ []) []) (asked Some h))
         (λ h.
         ap (λ x. cond x (l ∷ []) []) (all_any (λ r. holds (node_test node) (in_both cs ds env l r)) rs)
-        ∙ ap (λ (m : Row → Bool). cond (not (any m rs)) (l ∷ []) []) (asked-turned 9 h))
+        ∙ ap (λ (m : Row → Bool). cond (not (any m rs)) (l ∷ []) []) (asked-turned Every h))
 
   -- what the left row at src gives where it is kept
-  pub kept_row : (src : ℕ) (cells : List ℕ) (rs : List Row) → 6 ≤ node.kind → node.kind ≤ 9 → let l = row_at src (length cs) cells in
+  pub kept_row : (src : ℕ) (cells : List ℕ) (rs : List Row) → KeepsRows node.kind → let l = row_at src (length cs) cells in
       emitted (operator_of node) ds l (bind cs l env) rs ≡ cond (keeps_row node.kind f (drop src cells) rs) (l ∷ []) []
-  kept_row src cells rs low high =
+  kept_row src cells rs keeps =
       let l : Row = row_at src (length cs) cells in
-      keeps_by l rs node.kind low high (found.keys l)
+      keeps_by l rs node.kind keeps (found.keys l)
       ∙ ap (λ b. cond b (l ∷ []) []) (keeps_left node.kind f (length cs) (length ds) (drop src cells) rs found.inside)
 
   -- the aggregate of the left row at src
   pub cell_row : (src : ℕ) (cells : List ℕ) (rs : List Row) → has_test node.kind ≡ true
       → found_cell f (drop src cells) rs ≡ gathered (operator_of node) ds (bind cs (row_at src (length cs) cells) env) rs
   cell_row src cells rs tested =
-      ap (aggregate (aggregate_of f.code 0)) (sym (found-cells-left f (length cs) (length ds) (drop src cells) rs found.inside))
+      ap (aggregate (aggregate_by f.aggregate 0)) (sym (found-cells-left f (length cs) (length ds) (drop src cells) rs found.inside))
       ∙ found-gathered node cs ds env f found tested (row_at src (length cs) cells) rs
 
 -- ---- each kind: how far the room goes, and that what is written is what the node gives
 module _ (node : Node) (cs ds : List ℕ) (src dst behind k : ℕ) (entry : List ℕ) where
-  abbrev Room : ℕ → Type 0
+  abbrev Room : Kind → Type 0
   Room kind = StepRoom (operator_by kind node) cs ds k src dst behind
 
-  abbrev Given : ℕ → Env → ℕ → List ℕ → Type 0
+  abbrev Given : Kind → Env → ℕ → List ℕ → Type 0
   Given kind env r exit = PlainStep (operator_by kind node) cs ds env src dst behind k entry r exit
 
   joined-width : length (cs ++ ds) ≡ length cs + length ds
   joined-width = length-append cs ds
 
   -- the row is joined to each right row
-  abbrev Crosses : ℕ → Type 0
+  abbrev Crosses : Kind → Type 0
   Crosses kind =
       (Room kind → dst + k * (length cs + length ds) ≤ src)
       × ((env : Env) (exit : List ℕ) → JoinGiven src (length cs) dst behind k (length ds) entry exit → Given kind env k exit)
 
-  pub crosses : node.kind ≡ 5 → Crosses node.kind
+  pub crosses : node.kind ≡ Cross → Crosses node.kind
   unfolding operator_by emitted emit_within
   crosses e = subst Crosses (sym e) (λ h. rw joined-width at h.below, λ env exit g. wider (sym joined-width) g)
 
   -- the same; with no right row, once, with blanks
-  abbrev Eaches : ℕ → Type 0
+  abbrev Eaches : Kind → Type 0
   Eaches kind =
       (Room kind → dst + max 1 k * (length cs + length ds) ≤ src)
       × ((env : Env) (r : ℕ) (exit : List ℕ) → EachGiven ds src (length cs) dst behind k entry r exit → Given kind env r exit)
 
-  pub eaches : node.kind ≡ 11 → Eaches node.kind
+  pub eaches : node.kind ≡ Each → Eaches node.kind
   unfolding operator_by emitted
   eaches e =
       subst Eaches (sym e)
@@ -211,17 +231,17 @@ module _ (node : Node) (cs ds : List ℕ) (src dst behind k : ℕ) (entry : List
   gathered-width : length (cs ++ (node.id ∷ [])) ≡ length cs + 1
   gathered-width = length-append cs (node.id ∷ [])
 
-  abbrev aggregated : ℕ → Env → ℕ
+  abbrev aggregated : Kind → Env → ℕ
   aggregated kind env = gathered (operator_by kind node) ds (bind cs (row_at src (length cs) entry) env) (rows_from behind k (length ds) entry)
 
-  abbrev Gathers : ℕ → Type 0
+  abbrev Gathers : Kind → Type 0
   Gathers kind =
       (has_test kind ≡ true)
       × (Room kind → dst + (length cs + 1) ≤ src)
       × ((env : Env) (cell : ℕ) (exit : List ℕ) → Room kind → cell ≡ aggregated kind env
       → Written dst (length cs + 1) (row_at src (length cs) entry ++ (cell ∷ [])) entry exit → Given kind env 1 exit)
 
-  pub gathers : (node.kind ≡ 10) ⊎ (node.kind ≡ 12) → Gathers node.kind
+  pub gathers : (node.kind ≡ Fold) ⊎ (node.kind ≡ Pair) → Gathers node.kind
   unfolding operator_by emitted emit_within passing aggregate_in has_test
   gathers =
       ⊎_elim
@@ -241,7 +261,7 @@ module _ (node : Node) (cs ds : List ℕ) (src dst behind k : ℕ) (entry : List
       ))
 
   -- the row is kept, or not: there is no region, so it only moves down
-  abbrev Keeping : ℕ → Type 0
+  abbrev Keeping : Kind → Type 0
   Keeping kind =
       (Room kind → dst ≤ src)
       × ((env : Env) (r : ℕ) (exit : List ℕ)
@@ -249,7 +269,7 @@ module _ (node : Node) (cs ds : List ℕ) (src dst behind k : ℕ) (entry : List
       Emitted (emitted (operator_by kind node) ds l (bind cs l env) (rows_from behind k (length ds) entry)) (length cs) 1 r dst (src + length cs) entry exit
       → Given kind env r exit)
 
-  pub keeping : 6 ≤ node.kind → node.kind ≤ 9 → Keeping node.kind
+  pub keeping : KeepsRows node.kind → Keeping node.kind
   unfolding operator_by
   keeping =
       by-keeping Keeping (λ h. omega (arith, h.below), λ env r exit g. g) (λ h. omega (arith, h.below), λ env r exit g. g)
@@ -263,39 +283,43 @@ module _ (node : Node) (f : Found) (cs ds : List ℕ) (src dst behind k : ℕ) (
   abbrev Gives-rows : ℕ → List ℕ → Type 0
   Gives-rows r exit = EmitGiven node f cs ds src dst behind k entry r exit
 
-  pub cell-given : (node.kind ≡ 10) ⊎ (node.kind ≡ 12) → (cell : ℕ) (exit : List ℕ) → cell ≡ found_cell f (drop src entry) rights
+  pub cell-given : (node.kind ≡ Fold) ⊎ (node.kind ≡ Pair) → (cell : ℕ) (exit : List ℕ) → cell ≡ found_cell f (drop src entry) rights
       → Written dst (length cs + 1) (row_at src (length cs) entry ++ (cell ∷ [])) entry exit → Gives-rows 1 exit
   cell-given e cell exit is g env found =
       let p = gathers node cs ds src dst behind k entry e in
       p.2 env cell exit room (is ∙ cell_row node cs ds env f found src entry rights p.0) g
 
-  module _ (low : 6 ≤ node.kind) (high : node.kind ≤ 9) where
+  module _ (keeps : KeepsRows node.kind) where
     pub kept-given : (exit : List ℕ) → keeps_row node.kind f (drop src entry) rights ≡ true → behind ≤ length entry → exit ≡ paste entry dst (drop src entry) (length cs)
         → Gives-rows 1 exit
     kept-given exit is h e env found =
-        let p = keeping node cs ds src dst behind k entry low high in
+        let p = keeping node cs ds src dst behind k entry keeps in
         let down : dst ≤ src = p.0 room in
         let long : length (drop src entry) ≡ length entry - src = length-drop src entry in
         let copied = written_copy entry exit (drop src entry) dst (length cs) e (omega (arith, room.apart)) (omega (arith, room.apart)) in
         let row : Row = row_at src (length cs) entry in
-        p.1 env 1 exit (emitted-one (kept_row node cs ds env f found src entry rights low high ∙ ap (λ b. cond b (row ∷ []) []) is) copied (omega arith))
+        p.1 env 1 exit (emitted-one (kept_row node cs ds env f found src entry rights keeps ∙ ap (λ b. cond b (row ∷ []) []) is) copied (omega arith))
 
     pub none-given : keeps_row node.kind f (drop src entry) rights ≡ false → Gives-rows 0 entry
     none-given is env found =
         let row : Row = row_at src (length cs) entry in
-        (keeping node cs ds src dst behind k entry low high).1 env 0 entry
-        (emitted-none (length cs) dst (src + length cs) (kept_row node cs ds env f found src entry rights low high ∙ ap (λ b. cond b (row ∷ []) []) is))
+        (keeping node cs ds src dst behind k entry keeps).1 env 0 entry
+        (emitted-none (length cs) dst (src + length cs) (kept_row node cs ds env f found src entry rights keeps ∙ ap (λ b. cond b (row ∷ []) []) is))
 
 -- the kinds with two children that compare keys: a Semi, an Anti, a Pair
 no_keys : {A : Type 0} → false ≡ true → A
 no_keys e = let z : ◌≡◌ {A = ℕ} 0 1 = ap (λ b. cond b 1 0) e in absurd (omega arith)
 
-pub keyed_kinds : (node : Node) → has_keys node.kind ≡ true → arity (operator_of node) ≡ 2 → (node.kind ≡ 12 → ⊥) → (6 ≤ node.kind) × (node.kind ≤ 7)
-unfolding has_keys
-keyed_kinds node keys two other =
-    by_kind (λ k. has_keys k ≡ true → k ≤ 12 → (k ≡ 12 → ⊥) → (6 ≤ k) × (k ≤ 7))
+pub keyed_kinds : (node : Node) → has_keys node.kind ≡ true → arity (operator_of node) ≡ 2 → (node.kind ≡ Pair → ⊥) → (node.kind ≡ Semi) ⊎ (node.kind ≡ Anti)
+unfolding has_keys operator_by
+keyed_kinds node =
+    each_kind (λ k. has_keys k ≡ true → arity (operator_by k node) ≡ 2 → (k ≡ Pair → ⊥) → (k ≡ Semi) ⊎ (k ≡ Anti))
     (λ e h g. no_keys e) (λ e h g. no_keys e) (λ e h g. no_keys e) (λ e h g. no_keys e) (λ e h g. no_keys e) (λ e h g. no_keys e)
-    (λ e h g. omega arith) (λ e h g. omega arith)
+    (λ e h g. inl refl) (λ e h g. inr refl)
     (λ e h g. no_keys e) (λ e h g. no_keys e) (λ e h g. no_keys e) (λ e h g. no_keys e)
-    (λ e h g. absurd (g refl)) (λ e h g. absurd (omega arith)) (λ e h g. absurd (omega arith)) (λ k l e h g. absurd (omega arith))
-    node.kind keys (two-children node two).1 other
+    (λ e h g. absurd (g refl)) (λ e h g. absurd (omega arith)) (λ e h g. no_keys e) (λ k e h g. no_keys e)
+    node.kind
+
+-- .. which keep rows
+pub keeps_keyed : {k : Kind} → (k ≡ Semi) ⊎ (k ≡ Anti) → KeepsRows k
+keeps_keyed = ⊎_elim inl (λ e. inr (inl e))

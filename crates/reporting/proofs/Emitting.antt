@@ -1,4 +1,6 @@
 -- The loop over left rows of a node whose columns are found, under every environment that they were found in. Assumes nothing.
+use Rattle.std.specs.Coded.{Coded-set, coded_list, coded_ℕ, le_prop}
+use mathlib.Core.Logic.{∥∥₁_elim}
 use mathlib.Core.Path.{◌≡◌, refl, ap, ◌∙◌, subst}
 use mathlib.Core.List.{List}
 use Prim.Native.Nat.{ℕ, ◌+◌, ◌*◌, ◌-◌, ◌≤◌, ◌<◌}
@@ -37,7 +39,7 @@ module _ (node : Node) (f : Found) (cs ds : List ℕ) (own m behind k : ℕ) (fi
   pub emitting_start : Emitting node f cs ds own m behind k first first 0 0 own 0
   emitting_start = record { rows = λ env found. building_start first refl; right = refl; long = refl }
 
-  module _ (found : FoundSomewhere node cs ds f) (two : arity op ≡ 2) (room : LoopRoom op cs ds k own m behind) (cells : List ℕ) (i out src dst : ℕ)
+  module _ (found : ∥ FoundSomewhere node cs ds f ∥₁) (two : arity op ≡ 2) (room : LoopRoom op cs ds k own m behind) (cells : List ℕ) (i out src dst : ℕ)
       (p : Emitting node f cs ds own m behind k first cells i out src dst) where
     pub emitting_done : m ≤ i → EmitsGiven node f cs ds own m behind k first out cells
     emitting_done h = λ env g. building_done (p.rows env g) h
@@ -46,28 +48,29 @@ module _ (node : Node) (f : Found) (cs ds : List ℕ) (own m behind k : ℕ) (fi
       -- the row at hand has room for what it gives
       pub emitting_room : StepRoom op cs ds k src dst behind
       emitting_room = record {
-        below = turn_below (p.rows found.env found.found) h op (λ e. keeps_rows op two e cs ds k) room.share;
-        apart = omega (arith, building_row (p.rows found.env found.found) h, room.apart);
+        below = ∥∥₁_elim found le_prop (λ s. turn_below (p.rows s.env s.found) h op (λ e. keeps_rows op two e cs ds k) room.share);
+        apart = ∥∥₁_elim found le_prop (λ s. omega (arith, building_row (p.rows s.env s.found) h, room.apart));
       }
 
       -- no more rows come than the bound has
       pub emitting_few : m * emitted_most op k ≤ 4096 → out + emitted_most op k ≤ 4096
-      emitting_few most = omega (arith, (p.rows found.env found.found).few, turns m (emitted_most op k) i h)
+      emitting_few most = ∥∥₁_elim found le_prop (λ s. omega (arith, (p.rows s.env s.found).few, turns m (emitted_most op k) i h, most))
 
       module _ (r : ℕ) (cells' : List ℕ) (step : EmitGiven node f cs ds src dst behind k cells r cells') where
         pub step-few : r ≤ emitted_most op k
-        step-few = (step found.env found.found).gives.few
+        step-few = ∥∥₁_elim found le_prop (λ s. (step s.env s.found).gives.few)
 
         -- the next place is no higher than the row's end
         pub emitting_ends : (width : ℕ) → width ≡ wo → dst + r * width ≤ behind
         emitting_ends width e =
-            let ends = turn-ends (p.rows found.env found.found) h op (λ e. keeps_rows op two e cs ds k) room.share r step-few in
-            omega (arith, ends, emitting_room.apart, ap (λ (x : ℕ). r * x) e)
+            ∥∥₁_elim found le_prop (λ s.
+            let ends = turn-ends (p.rows s.env s.found) h op (λ e. keeps_rows op two e cs ds k) room.share r step-few in
+            omega (arith, ends, emitting_room.apart, ap (λ (x : ℕ). r * x) e))
 
         pub emitting_turn : length cells' ≡ length cells → (width : ℕ) → width ≡ wo
             → Emitting node f cs ds own m behind k first cells' (i + 1) (out + r) (src + length cs) (dst + r * width)
         emitting_turn len width e =
-            let left : drop (src + length cs) cells' ≡ drop (src + length cs) cells = (step found.env found.found).behind in
+            let left : drop (src + length cs) cells' ≡ drop (src + length cs) cells = ∥∥₁_elim found (Coded-set (coded_list coded_ℕ) _ _) (λ s. (step s.env s.found).behind) in
             record {
               rows = λ env g.
                   let rs : List ℕ → List Row = λ x. chunk k (length ds) x in

@@ -2,12 +2,12 @@
 use mathlib.Core.Path.{◌≡◌, refl, sym, ap, ◌∙◌}
 use mathlib.Core.Bool.{Bool, true, false, cond, ◌||◌, false≢true}
 use mathlib.Core.List.{List, [], ◌∷◌, ◌++◌, map, map-append}
-use Prim.Native.Nat.{ℕ, suc, ◌+◌, ◌≤◌, ◌<◌}
+use Prim.Native.Nat.{ℕ, suc, ◌+◌, ◌<◌}
 use native.Mathlib.Numerals.{add-one}
 use lib.Dec.{eqb}
-use lib.ListN.{length, take, drop, get_or, set, drop_of_length-le}
+use lib.ListN.{length, take, drop, get_or, set}
 use lib.Seq.{drop-cons, take-suc, get_or-set_same, get_or-set_other}
-use borrow.Author.Tests.{eqb-true, eqb-false, eq-eqb, ne_eqb}
+use borrow.Author.Tests.{eqb-true, eqb-false, ne_eqb}
 use Rattle.algebra.specs.Lists.{member}
 use Rattle.algebra.specs.Plans.{Row, Env, bind, cut}
 use Rattle.reporting.specs.Positions.{place_of}
@@ -20,20 +20,11 @@ bind-next cs vs env i x h k =
     (λ j. bind (drop-cons cs i 0 h j) (drop-cons vs i 0 k j) env x)
     ∙ ap (λ (n : ℕ). cond (eqb x (get_or cs i 0)) (get_or vs i 0) (bind (drop n cs) (drop n vs) env x)) (sym (add-one i))
 
-pub bind_hit : (cs vs : List ℕ) (env : Env) (i x : ℕ) → i < length cs → i < length vs → get_or cs i 0 ≡ x → bind (drop i cs) (drop i vs) env x ≡ get_or vs i 0
-bind_hit cs vs env i x h k e =
-    bind-next cs vs env i x h k
-    ∙ ap (λ (b : Bool). cond b (get_or vs i 0) (bind (drop (i + 1) cs) (drop (i + 1) vs) env x)) (eq-eqb x (get_or cs i 0) (sym e))
-
 pub bind_miss : (cs vs : List ℕ) (env : Env) (i x : ℕ) → i < length cs → i < length vs → (get_or cs i 0 ≡ x → ⊥)
     → bind (drop i cs) (drop i vs) env x ≡ bind (drop (i + 1) cs) (drop (i + 1) vs) env x
 bind_miss cs vs env i x h k e =
     bind-next cs vs env i x h k
     ∙ ap (λ (b : Bool). cond b (get_or vs i 0) (bind (drop (i + 1) cs) (drop (i + 1) vs) env x)) (ne_eqb x (get_or cs i 0) (λ z. e (sym z)))
-
--- past the last column
-pub bind-past : (cs vs : List ℕ) (env : Env) (i : ℕ) → length cs ≤ i → bind (drop i cs) (drop i vs) env ≡ env
-bind-past cs vs env i h = ap (λ (l : List ℕ). bind l (drop i vs) env) (drop_of_length-le cs {i = i} h)
 
 -- an environment in words with one word set
 set_at : (words : List ℕ) (c v x : ℕ) → c < length words → (b : Bool) → eqb x c ≡ b → get_or (set words c v) x 0 ≡ cond b v (get_or words x 0)

@@ -1,5 +1,5 @@
 -- Distinct: the rows kept so far, and what the rest adds to them. Assumes nothing.
-use mathlib.Core.Path.{◌≡◌, refl, sym, ap, ap₂, ◌∙◌}
+use mathlib.Core.Path.{◌≡◌, refl, sym, ap, ap₂, ◌∙◌, subst}
 use mathlib.Core.Bool.{Bool, true, false, not, cond, ◌&&◌, ◌||◌}
 use mathlib.Core.List.{List, [], ◌∷◌, ◌++◌, append_assoc, append-nil}
 use Prim.Native.Nat.{ℕ, ◌+◌, ◌*◌, ◌-◌, ◌≤◌, ◌<◌}
@@ -81,6 +81,11 @@ pub record Sifting (answer : List Row) (m w : ℕ) (first cells : List ℕ) (i o
   pub long : length cells ≡ length first
   pub behind : drop (m * w) cells ≡ drop (m * w) first
   pub so_far : answer ≡ chunk out w cells ++ beyond (chunk out w cells) (firsts (chunk (m - i) w (drop src cells)))
+
+-- the same at the places themselves
+pub sifting_places : {answer : List Row} {m w : ℕ} {first cells : List ℕ} {i out src dst : ℕ} → Sifting answer m w first cells i out src dst → Sifting answer m w first cells i out (i * w) (out * w)
+sifting_places {answer} {m} {w} {first} {cells} {i} {out} {src} p =
+    subst (λ (s : ℕ). Sifting answer m w first cells i out s (out * w)) p.src_at (subst (λ (d : ℕ). Sifting answer m w first cells i out src d) p.dst-at p)
 
 module _ (answer : List Row) (m w : ℕ) (first : List ℕ) where
   pub sifting_start : answer ≡ firsts (chunk m w first) → Sifting answer m w first first 0 0 0 0

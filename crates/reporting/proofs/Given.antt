@@ -1,4 +1,5 @@
 -- A report's rows, as `rows_at` of a whole plan leaves them at the front of scratch, for the layers above. Assumes nothing.
+use Rattle.std.specs.Prelude.{Ok}
 use Prim.Native.Nat.{ℕ, ◌+◌, ◌*◌, ◌-◌, ◌≤◌}
 use mathlib.Core.Path.{◌≡◌, refl, sym, ap, ap₂, ◌∙◌}
 use mathlib.Core.List.{List, ◌∷◌, ◌++◌, append_assoc}
@@ -38,13 +39,13 @@ pub record Standing (set plan : List ℕ) (rows w : ℕ) (cells : List ℕ) : Ty
   pub few : rows ≤ 4096
   pub thin : w ≤ 32
 
-pub standing : (set plan scratch scratch' : List ℕ) (r : Report) → RowsGiven set plan (plan_of plan) scratch scratch' r → r.refusal ≡ 0
+pub standing : (set plan scratch scratch' : List ℕ) (r : Report) → RowsGiven set plan (plan_of plan) scratch scratch' (Ok r)
     → Standing set plan r.rows r.columns scratch'
 unfolding rows_number
-standing set plan scratch scratch' r g e =
+standing set plan scratch scratch' r g =
     let T : Tables = tables_of set in
     let p : Plan = plan_of plan in
-    let (a, h) = not-turned set plan scratch (sym g.number ∙ e) in
+    let (a, h) = not-turned set plan scratch (sym g.number) in
     let l = le-ltb (length scratch) (need T p) h in
     let m : r.rows ≡ row_count set plan = rw (a, l) at g.rows in
     let w : r.columns ≡ column_count set plan = rw (a, l) at g.columns in

@@ -14,13 +14,15 @@ use Rattle.algebra.specs.Lists.{same, any, firsts, flat_map}
 use Rattle.algebra.specs.Cells.{aggregate}
 use Rattle.algebra.specs.Plans.{Row, Env, bind, emit_within, act_within}
 use Rattle.algebra.proofs.Lists.{any-map}
-use Rattle.reading.specs.Tree.{aggregate_of, operator_of, operator_by}
+use Rattle.reading.specs.Tree.{operator_of, operator_by}
+use Rattle.reading.specs.declared.kinds.Kind.{Kind}
+use Rattle.reading.specs.declared.kinds.Kind.TheVariants.{Group}
 use Rattle.reading.specs.declared.plan.Node.{Node}
 use Rattle.reporting.specs.Grouping.{key_row, grouped_by, KeyWritten}
 use Rattle.reporting.specs.Index.{before}
 use Rattle.reporting.specs.Keys.{has_test}
 use Rattle.reporting.specs.Rows.{chunk, Gives, acted, gathered, passing, aggregate_in}
-use Rattle.reporting.specs.Sides.{FoundInside, FoundFor, found_cells, found_cell}
+use Rattle.reporting.specs.Sides.{aggregate_by, FoundInside, FoundFor, found_cells, found_cell}
 use Rattle.reporting.specs.declared.side.Found.{Found}
 use Rattle.reporting.proofs.Chunks.{mono, turns, times_suc, next_row, chunk_snoc, chunk-same, paste-front, paste-row, paste-rest}
 use Rattle.reporting.proofs.Copies.{written-cell}
@@ -63,7 +65,7 @@ module _ (f : Found) (cells : List ℕ) (dst own m w key : ℕ) (inside : FoundI
   key-found : found_cell f (drop dst (set cells dst key)) (chunk m w (drop own (set cells dst key))) ≡ found_cell f (key ∷ []) (chunk m w (drop own cells))
   key-found =
       let c : List ℕ = set cells dst key in
-      ap (aggregate (aggregate_of f.code 0))
+      ap (aggregate (aggregate_by f.aggregate 0))
       (sym (found-cells-left f 1 w (drop dst c) (chunk m w (drop own c)) inside)
       ∙ ap₂ (found_cells f) (written-cell cells dst key (omega arith)).here (ap (chunk m w) (drop-set-lt own cells dst key (omega arith))))
 
@@ -82,15 +84,15 @@ chunk-given cells cells' out dst x y to inside e =
     ∙ ap₂ (λ (a : List Row) (b : Row). a ++ (b ∷ [])) (chunk-same out 2 cells' cells front) here
 
 -- ---- what Group gives
-acted-group : (node : Node) (cs : List ℕ) (env : Env) (rows : List Row) → node.kind ≡ 13
+acted-group : (node : Node) (cs : List ℕ) (env : Env) (rows : List Row) → node.kind ≡ Group
     → acted (operator_of node) cs env rows ≡ flat_map (λ v. (v ++ (gathered (operator_of node) cs (bind (node.left ∷ []) v env) rows ∷ [])) ∷ []) (firsts (map (λ q. bind cs q env node.right ∷ []) rows))
 unfolding operator_by acted act_within emit_within passing aggregate_in
 acted-group node cs env rows e =
-    ap (λ (k : ℕ). acted (operator_by k node) cs env rows) e
-    ∙ ap (λ (k : ℕ). flat_map (λ v. (v ++ (gathered (operator_by k node) cs (bind (node.left ∷ []) v env) rows ∷ [])) ∷ []) (firsts (map (λ q. bind cs q env node.right ∷ []) rows))) (sym e)
+    ap (λ (k : Kind). acted (operator_by k node) cs env rows) e
+    ∙ ap (λ (k : Kind). flat_map (λ v. (v ++ (gathered (operator_by k node) cs (bind (node.left ∷ []) v env) rows ∷ [])) ∷ []) (firsts (map (λ q. bind cs q env node.right ∷ []) rows))) (sym e)
 
 -- by the columns that were found: the key of a row is its right key
-pub group-rows : (node : Node) (cs : List ℕ) (env : Env) (f : Found) (key : Row → ℕ) (rows : List Row) → node.kind ≡ 13 → FoundFor node (node.left ∷ []) cs env f → ((q : Row) → key q ≡ bind cs q env node.right)
+pub group-rows : (node : Node) (cs : List ℕ) (env : Env) (f : Found) (key : Row → ℕ) (rows : List Row) → node.kind ≡ Group → FoundFor node (node.left ∷ []) cs env f → ((q : Row) → key q ≡ bind cs q env node.right)
     → acted (operator_of node) cs env rows ≡ grouped_by f key rows
 unfolding has_test
 group-rows node cs env f key rows e found is =

@@ -1,6 +1,6 @@
 -- Rows compared cell by cell. Assumes nothing.
 use mathlib.Core.Path.{◌≡◌, sym, ap, ap₂, ◌∙◌}
-use mathlib.Core.Bool.{Bool, true, false, cond, ◌&&◌, ◌||◌}
+use mathlib.Core.Bool.{Bool, false, cond, ◌||◌}
 use mathlib.Core.List.{List}
 use Prim.Native.Nat.{ℕ, ◌+◌, ◌-◌, ◌≤◌, ◌<◌}
 use native.Mathlib.Numerals.{add-one}
@@ -9,18 +9,11 @@ use lib.Dec.{eqb, ltb}
 use lib.ListN.{length, take, drop, get_or, drop_of_length-le}
 use lib.Seq.{drop-cons}
 use borrow.Author.Tests.{eq-eqb, ne_eqb}
-use Rattle.algebra.specs.Lists.{same, any}
+use Rattle.algebra.specs.Lists.{any}
 use Rattle.algebra.specs.Plans.{Row, precedes}
 use Rattle.reporting.specs.Rows.{chunk}
 use Rattle.reporting.specs.Positions.{picked}
 use Rattle.reporting.proofs.Chunks.{next_row}
-
-pub same_next : (a b : Row) (i : ℕ) → i < length a → i < length b → same (drop i a) (drop i b) ≡ (eqb (get_or a i 0) (get_or b i 0) && same (drop (i + 1) a) (drop (i + 1) b))
-same_next a b i h k =
-    ap₂ same (drop-cons a i 0 h) (drop-cons b i 0 k) ∙ ap (λ (n : ℕ). eqb (get_or a i 0) (get_or b i 0) && same (drop n a) (drop n b)) (sym (add-one i))
-
-pub same_end : (a b : Row) (i : ℕ) → length a ≤ i → length b ≤ i → same (drop i a) (drop i b) ≡ true
-same_end a b i h k = ap₂ same (drop_of_length-le a {i = i} h) (drop_of_length-le b {i = i} k)
 
 pub any_next : (P : Row → Bool) (k w i at : ℕ) (xs : List ℕ) → i < k → any P (chunk (k - i) w (drop at xs)) ≡ (P (take w (drop at xs)) || any P (chunk (k - (i + 1)) w (drop (at + w) xs)))
 any_next P k w i at xs h = ap (any P) (next_row k w i at xs h)

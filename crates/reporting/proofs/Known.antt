@@ -1,6 +1,7 @@
 -- Aggregates kept by key: left rows with one key have one aggregate, where nothing else of a left row is read. Assumes nothing.
+use Rattle.std.specs.Prelude.{Option, Some, None}
 use mathlib.Core.Path.{◌≡◌, refl, sym, ap, ◌∙◌, fun_ext}
-use mathlib.Core.Bool.{Bool, true, false, not, cond, ◌&&◌, ◌||◌, false≢true}
+use mathlib.Core.Bool.{Bool, true, false, not, cond, ◌&&◌, and-eq-true_iff, false≢true}
 use mathlib.Core.List.{List, [], ◌∷◌, map}
 use Prim.Native.Nat.{ℕ, zero, suc, ◌+◌, ◌≤◌, ◌<◌}
 use native.Mathlib.Omega.{arith}
@@ -8,20 +9,22 @@ use lib.Dec.{eqb, ltb}
 use lib.ListN.{length, length-map, length-set, get_or, set, replicate, get_or-replicate}
 use lib.Seq.{get_or-set_same, get_or-set_other}
 use borrow.Author.Tests.{eqb-true, eqb-false, eq-eqb, ne_eqb, lt-ltb, le-ltb}
-use Rattle.algebra.specs.Lists.{flip, filter}
+use Rattle.algebra.specs.Lists.{flip, filter, any}
 use Rattle.algebra.specs.Cells.{Aggregate, count, origin, is_number, eq, compares, aggregate, aggregate_within}
 use Rattle.algebra.specs.Plans.{Row, Env}
 use Rattle.algebra.proofs.Lists.{filter_out, any-count}
-use Rattle.reading.specs.Tree.{comparison_of, aggregate_of, node_aggregate}
+use Rattle.reading.specs.Tree.{comparison_of, node_aggregate}
+use Rattle.reading.specs.declared.kinds.Kind.{Kind}
 use Rattle.reading.specs.declared.plan.Node.{Node}
+use Rattle.reading.proofs.Operators.{each_kind}
 use Rattle.reporting.specs.Index.{before}
-use Rattle.reporting.specs.Keys.{has_aggregate}
-use Rattle.reporting.specs.Known.{side_shared, Shared, SharedIf, key_number, Known}
-use Rattle.reporting.specs.Sides.{side_cell, condition_holds, Equals, meets, found_cells, found_cell, keeps_row, FoundFor}
+use Rattle.reporting.specs.Keys.{keeps_rows, has_aggregate}
+use Rattle.reporting.specs.Known.{side_shared, compared_shared, Shared, SharedIf, key_number, Known}
+use Rattle.reporting.specs.Sides.{side_cell, aggregate_by, compared_holds, condition_holds, Equals, meets, found_cells, found_cell, FoundFor}
 use Rattle.reporting.specs.declared.side.Side.{Side}
 use Rattle.reporting.specs.declared.side.Side.TheVariants.{Left, Right, Word}
+use Rattle.reporting.specs.declared.side.Compared.{Compared}
 use Rattle.reporting.specs.declared.side.Found.{Found}
-use Rattle.reporting.proofs.Emits.{keeps_other}
 use Rattle.reporting.proofs.Passing.{aggregate-of}
 use Rattle.reporting.proofs.Sides.{meets-other, meets-none, aggregate-cells}
 
@@ -31,12 +34,18 @@ side-shared (Left place) h l l' r = absurd (false≢true h)
 side-shared (Right place) h l l' r = refl
 side-shared (Word word) h l l' r = refl
 
-pub found_shared : (f : Found) → side_shared f.test.left ≡ true → side_shared f.test.right ≡ true → side_shared f.measured ≡ true → Shared f
+compared-shared : (k : Option Compared) → compared_shared k ≡ true → (l l' r : Row) → compared_holds k l r ≡ compared_holds k l' r
+compared-shared None h l l' r = refl
+compared-shared (Some k) h l l' r =
+    let (a, b) = (and-eq-true_iff (side_shared k.left) (side_shared k.right)).0 h in
+    λ i. compares (comparison_of k.comparison) (side-shared k.left a l l' r i) (side-shared k.right b l l' r i)
+
+pub found_shared : (f : Found) → compared_shared f.test.compared ≡ true → side_shared f.measured ≡ true → Shared f
 unfolding condition_holds
-found_shared f a b c =
+found_shared f a b =
     record {
-      test = λ l l' r i. flip f.test.negated (f.test.always || compares (comparison_of f.test.comparison) (side-shared f.test.left a l l' r i) (side-shared f.test.right b l l' r i));
-      measured = λ l l' r. side-shared f.measured c l l' r;
+      test = λ l l' r. ap (flip f.test.negated) (compared-shared f.test.compared a l l' r);
+      measured = λ l l' r. side-shared f.measured b l l' r;
     }
 
 pub shared-if : (b : Bool) (f : Found) → (b ≡ true → Shared f) → SharedIf b f
@@ -87,7 +96,7 @@ module _ (f : Found) (left right : ℕ) (keys : Equals left right f.keys) where
 
     same-found : (rs : List Row) → key_number left right rs l ≡ key_number left right rs l' → found_cell f l rs ≡ found_cell f l' rs
     unfolding found_cells
-    same-found rs e = λ i. aggregate (aggregate_of f.code 0) (map (λ r. shared.measured l l' r i) (same_met rs e i))
+    same-found rs e = λ i. aggregate (aggregate_by f.aggregate 0) (map (λ r. shared.measured l l' r i) (same_met rs e i))
 
   -- ---- what is kept
   pub known_start : (rs : List Row) → length rs ≤ 4096 → Known f left right rs (replicate 4097 0)
@@ -117,23 +126,27 @@ module _ (f : Found) (left right : ℕ) (keys : Equals left right f.keys) where
           ]) refl;
         }
 
--- ---- a Semi and an Anti count the right rows that are met
-module _ (node : Node) (cs ds : List ℕ) (env : Env) (f : Found) (found : FoundFor node cs ds env f) (low : 6 ≤ node.kind) (high : node.kind ≤ 7) where
+-- ---- a kind that keeps rows counts the right rows that are met
+none_with : (k : Kind) → keeps_rows k ≡ true → has_aggregate k ≡ false
+unfolding keeps_rows has_aggregate
+none_with =
+    each_kind (λ k. keeps_rows k ≡ true → has_aggregate k ≡ false)
+    (λ e. refl) (λ e. refl) (λ e. refl) (λ e. refl) (λ e. refl) (λ e. refl) (λ e. refl) (λ e. refl) (λ e. refl) (λ e. refl)
+    (λ e. absurd (false≢true e)) (λ e. refl) (λ e. absurd (false≢true e)) (λ e. absurd (false≢true e)) (λ e. refl) (λ k e. refl)
+
+module _ (node : Node) (cs ds : List ℕ) (env : Env) (f : Found) (found : FoundFor node cs ds env f) (keeps : keeps_rows node.kind ≡ true) where
   no-aggregate : has_aggregate node.kind ≡ false
-  unfolding has_aggregate
-  no-aggregate = rw (le-ltb 9 node.kind (omega arith))
+  no-aggregate = none_with node.kind keeps
 
   counted : (l : Row) (rs : List Row) → found_cell f l rs ≡ origin + length (filter (meets f l) rs)
   unfolding found_cells aggregate_within
   counted l rs =
-      aggregate-cells f.code 0 node.column (found_cells f l rs)
-      ∙ ap (λ (g : Aggregate). aggregate g (found_cells f l rs)) (found.code ∙ aggregate-of node ∙ ap (λ (b : Bool). cond b (node_aggregate node) count) no-aggregate)
+      aggregate-cells f.aggregate 0 node.column (found_cells f l rs)
+      ∙ ap (λ (g : Aggregate). aggregate g (found_cells f l rs)) (found.aggregate ∙ aggregate-of node ∙ ap (λ (b : Bool). cond b (node_aggregate node) count) no-aggregate)
       ∙ ap (λ (n : ℕ). origin + n) (length-map (filter (meets f l) rs) (side_cell f.measured l))
 
-  pub kept-counted : (l : Row) (rs : List Row) (cell : ℕ) → cell ≡ found_cell f l rs → keeps_row node.kind f l rs ≡ flip (eqb node.kind 7) (not (eqb cell 9223372036854775808))
-  kept-counted l rs cell e =
-      keeps_other node.kind f l rs (λ n. omega arith)
-      ∙ ap (flip (eqb node.kind 7)) (any-count (meets f l) rs ∙ some-counted (length (filter (meets f l) rs)) (e ∙ counted l rs))
+  pub any-counted : (l : Row) (rs : List Row) (cell : ℕ) → cell ≡ found_cell f l rs → any (meets f l) rs ≡ not (eqb cell 9223372036854775808)
+  any-counted l rs cell e = any-count (meets f l) rs ∙ some-counted (length (filter (meets f l) rs)) (e ∙ counted l rs)
     where
       some-counted : (n : ℕ) → cell ≡ 9223372036854775808 + n → ltb 0 n ≡ not (eqb cell 9223372036854775808)
       some-counted zero h = le-ltb 0 0 (omega arith) ∙ ap not (sym (eq-eqb cell 9223372036854775808 (omega (arith, h))))

@@ -3,10 +3,11 @@ use mathlib.Core.Path.{◌≡◌, sym, ap, ◌∙◌}
 use mathlib.Core.List.{List, [], ◌++◌, append-nil}
 use Prim.Native.Nat.{ℕ, ◌+◌, ◌*◌, ◌-◌, ◌≤◌}
 use native.Mathlib.Omega.{arith}
-use lib.ListN.{length, take, drop, length-drop, length-append, drop_of_length-le}
-use lib.Seq.{take_all, drop-drop, drop_at, length-take-le, take-append-le}
-use borrow.Rule.Slice.PartMut.{put_mid, post_of}
+use lib.ListN.{length, take, drop, length-drop, drop_of_length-le}
+use lib.Seq.{take_all, take_at, drop-drop, drop_at, length-take-le, take-append-le}
+use borrow.Rule.Slice.PartMut.{put_mid, post_of, take_put, drop_put}
 use Rattle.reporting.specs.Rows.{chunk}
+use Rattle.reporting.specs.Written.{Written}
 use Rattle.reporting.proofs.Chunks.{chunk-same}
 
 pub tail_part : {A : Type 0} (b : ℕ) (xs : List A) → take (length xs - b) (drop b xs) ≡ drop b xs
@@ -28,9 +29,6 @@ lent_back {A} k cells ys =
 pub lent_tail : (k : ℕ) (cells ys : List ℕ) → k ≤ length cells → drop k (put_mid k (length cells - k) cells ys) ≡ ys
 lent_tail k cells ys h = ap (drop k) (lent_back k cells ys) ∙ drop_at (take k cells) ys k (length-take-le k cells h)
 
-pub lent_length : (k : ℕ) (cells ys : List ℕ) → k ≤ length cells → length ys ≡ length cells - k → length (put_mid k (length cells - k) cells ys) ≡ length cells
-lent_length k cells ys h e = omega (arith, ap length (lent_back k cells ys), length-append (take k cells) ys, length-take-le k cells h)
-
 -- the rows at the front of a part that is back
 pub lent_rows : (k j : ℕ) (cells ys : List ℕ) (m w : ℕ) → k ≤ length cells → m * w ≤ length ys → chunk m w (drop k (put_mid k j cells ys)) ≡ chunk m w ys
 lent_rows k j cells ys m w h f =
@@ -39,3 +37,15 @@ lent_rows k j cells ys m w h f =
 
 pub tail_length : (k : ℕ) (cells : List ℕ) → length (take (length cells - k) (drop k cells)) ≡ length cells - k
 tail_length k cells = length-take-le (length cells - k) (drop k cells) (rw length-drop (omega arith))
+
+-- a row written over a part that was lent and is back
+pub written_back : (at n : ℕ) (cells row ys : List ℕ) → at + n ≤ length cells → length row ≡ n → ys ≡ row → Written at n row cells (put_mid at (at + n - at) cells ys)
+written_back at n cells row ys h long e =
+    let all : length ys ≡ n = ap length e ∙ long in record {
+      before = take_put at (at + n - at) cells ys (omega arith);
+      here =
+          ap (take n) (drop_at (take at cells) (ys ++ post_of at (at + n - at) cells) at (length-take-le at cells (omega arith)))
+          ∙ take_at ys (post_of at (at + n - at) cells) n all
+          ∙ e;
+      behind = drop_put at (at + n) cells ys (omega arith) h (omega arith);
+    }

@@ -31,6 +31,7 @@ pub mod Sides
 pub mod Emitting
 pub mod Meets
 pub mod Known
+pub mod Lookups
 pub mod Earliest
 pub mod Widths
 pub mod Given

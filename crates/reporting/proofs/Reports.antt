@@ -1,4 +1,5 @@
 -- The reporting call's answer, end by end, and what an accepted input gives the evaluator. Assumes nothing.
+use Rattle.std.specs.Prelude.{Ok, Err, Result}
 use Prim.Native.Nat.{ℕ, zero, suc, ◌*◌, ◌+◌, ◌≤◌, ◌<◌, min}
 use mathlib.Core.Bool.{true, and-eq-true_iff}
 use mathlib.Core.Path.{◌≡◌, refl, sym, ap, ap₂, ◌∙◌}
@@ -7,7 +8,7 @@ use native.Mathlib.Omega.{arith}
 use native.Mathlib.Nat.{zero-mul, mul-le-mul, le_trans}
 use lib.IntN.{ℤ}
 use lib.ListN.{length, get_or, take, drop, replicate, length-map}
-use lib.Seq.{take-add, length-take-le}
+use lib.Seq.{take-add}
 use borrow.Author.Tests.{leb-true, lt-ltb, le-ltb}
 use Rattle.algebra.specs.Lists.{all, unique, flat_map}
 use Rattle.algebra.specs.Plans.{Env, Tables, Plan, eval}
@@ -18,33 +19,31 @@ use Rattle.algebra.proofs.Refusals.{Unrefused, refusal-none, all-root, low_rows}
 use Rattle.algebra.proofs.Needs.{extent, rows-within}
 use Rattle.reading.specs.TableSet.{tables_of, read_set}
 use Rattle.reading.specs.Tree.{plan_of, whole_tree}
-use Rattle.reading.specs.Check.{or_next, set_number, plan_refusal, input_refusal, input_refusal_as, answer, check_of, check_as}
-use Rattle.reading.specs.declared.input.Checked.TheVariants.{Accepted, Refused}
+use Rattle.reading.specs.Refusals.{refusal_number}
+use Rattle.reading.specs.Check.{or_next, set_number, plan_refusal, input_refusal, input_refusal_as, check_of}
+use Rattle.reading.specs.declared.input.Accepted.{Accepted}
+use Rattle.reading.specs.declared.refusal.Refusal.{Refusal}
+use Rattle.reading.specs.declared.refusal.Refusal.TheVariants.{OutputShort, ScratchShort}
+use Rattle.reading.specs.declared.version.Version.TheVariants.{Second}
+use Rattle.reading.proofs.Acceptance.{number-positive, accepted, number-accepted, number-refused, Listed, listed_next, listed_if, listed-input}
 use Rattle.reading.proofs.PlanBytes.{plan_passed}
 use Rattle.reporting.specs.Rows.{chunk, env_of, Gives}
 use Rattle.reporting.specs.Evaluation.{Ready}
-use Rattle.reporting.specs.Report.{report_rows, row_count, column_count, code_of, report_codes, report_number, count_after, scratch_after, Reported}
+use Rattle.reporting.specs.Report.{report_rows, row_count, column_count, code_of, report_codes, scratch_number, output_number, report_number, count_after, scratch_after, answered_rows, answered_columns, Reported}
 use Rattle.reporting.specs.declared.answer.Report.{Report}
 use Rattle.reporting.proofs.Chunks.{times_suc, length-chunk}
 
 -- ---- the check's answer and the input's number
 
-pub answer-refused : (z tables nodes cells number : ℕ) → answer z tables nodes cells ≡ Refused number → (z ≡ number) × (0 < z)
-answer-refused zero tables nodes cells number e = let z : ◌≡◌ {A = ℕ} 0 1 = cc in absurd (omega arith)
-answer-refused (suc z) tables nodes cells number e = (cc, omega arith)
-
-answer-accepted : (z t n c tables nodes cells : ℕ) → answer z t n c ≡ Accepted tables nodes cells → (z ≡ 0) × (cells ≡ c)
-answer-accepted zero t n c tables nodes cells e = (refl, cc)
-answer-accepted (suc z) t n c tables nodes cells e = let z : ◌≡◌ {A = ℕ} 0 1 = cc in absurd (omega arith)
+pub refused-input : (set plan : List ℕ) (r : Refusal) → check_of set plan ≡ Err r → (input_refusal set plan ≡ refusal_number r) × (0 < refusal_number r)
+refused-input set plan r e = (number-refused Second set plan r e, number-positive r)
 
 pub or-next : (a b : ℕ) → or_next a b ≡ 0 → (a ≡ 0) × (b ≡ 0)
 or-next zero b e = (refl, e)
 or-next (suc a) b e = absurd (omega arith)
 
-pub accepted-input : (set plan : List ℕ) (tables nodes cells : ℕ) → check_of set plan ≡ Accepted tables nodes cells
-    → (input_refusal set plan ≡ 0) × (cells ≡ need (tables_of set) (plan_of plan))
-unfolding check_as
-accepted-input set plan tables nodes cells e = answer-accepted (input_refusal set plan) _ _ _ tables nodes cells e
+pub accepted-input : (set plan : List ℕ) (a : Accepted) → check_of set plan ≡ Ok a → (input_refusal set plan ≡ 0) × (a.need ≡ need (tables_of set) (plan_of plan))
+accepted-input set plan a e = (number-accepted Second set plan a e, (accepted set plan a e).needs)
 
 -- ---- the call's number
 module _ (set plan : List ℕ) (room scratch_room : ℕ) where
@@ -72,47 +71,39 @@ scratch_kept zero scratch h = absurd (omega arith)
 scratch_kept (suc z) scratch h = refl
 
 -- ---- the ends of the call
-module _ (set plan : List ℕ) (out : List ℤ) (scratch : List ℕ) (r : Report) where
-  abbrev RefusedBy : ℕ → Type 0
-  RefusedBy z = (r.refusal ≡ z) × (r.rows ≡ 0) × (r.columns ≡ 0)
-
-  -- a refusal by any number
-  refused-by : (scratch' : List ℕ) (z : ℕ) → 0 < z → report_number set plan (length out) (length scratch) ≡ z → RefusedBy z
-      → scratch' ≡ scratch_after (input_refusal set plan) scratch → Reported set plan out out scratch scratch' r
-  refused-by scratch' zero h e k s = absurd (omega arith)
-  refused-by scratch' (suc z) h e k s = record {
-    number = k.0 ∙ sym e;
-    rows = rw e k.1;
-    columns = rw e k.2;
-    output = rw e;
-    cleared = s;
-  }
+module _ (set plan : List ℕ) (out : List ℤ) (scratch : List ℕ) where
+  -- a refusal
+  refused-by : (k : Refusal) (scratch' : List ℕ) → report_number set plan (length out) (length scratch) ≡ refusal_number k
+      → scratch' ≡ scratch_after (input_refusal set plan) scratch → Reported set plan out out scratch scratch' (Err k)
+  refused-by k scratch' e s = by (refusal_number k) (number-positive k) e refl
+    where
+      by : (z : ℕ) → 0 < z → report_number set plan (length out) (length scratch) ≡ z → refusal_number k ≡ z → Reported set plan out out scratch scratch' (Err k)
+      by zero h e q = absurd (omega arith)
+      by (suc z) h e q = record { number = q ∙ sym e; rows = rw e; columns = rw e; output = rw e; cleared = s }
 
   -- 1 to 14
-  pub turned-back : (number : ℕ) → check_of set plan ≡ Refused number → RefusedBy number → Reported set plan out out scratch scratch r
-  unfolding check_as
-  turned-back number e k =
-      let (f, p) = answer-refused (input_refusal set plan) _ _ _ number e in
-      let q : 0 < number = omega arith in
-      refused-by scratch number q (number-input set plan (length out) (length scratch) number q f) k (scratch_kept (input_refusal set plan) scratch p)
+  pub turned-back : (k : Refusal) → check_of set plan ≡ Err k → Reported set plan out out scratch scratch (Err k)
+  turned-back k e =
+      let (f, p) = refused-input set plan k e in
+      refused-by k scratch (number-input set plan (length out) (length scratch) (refusal_number k) p f) (scratch_kept (input_refusal set plan) scratch (rw f p))
 
   -- after every other end scratch is cleared
   module _ (a : input_refusal set plan ≡ 0) where
-    pub scratch_short : length scratch < need (tables_of set) (plan_of plan) → RefusedBy 16 → Reported set plan out out scratch (replicate (length scratch) 0) r
-    scratch_short h k = refused-by (replicate (length scratch) 0) 16 (omega arith) (number_16 set plan (length out) (length scratch) a h) k (rw a)
+    pub scratch_short : length scratch < need (tables_of set) (plan_of plan) → Reported set plan out out scratch (replicate (length scratch) 0) (Err ScratchShort)
+    scratch_short h = refused-by ScratchShort (replicate (length scratch) 0) (number_16 set plan (length out) (length scratch) a h) (rw a)
 
     module _ (h : need (tables_of set) (plan_of plan) ≤ length scratch) where
-      pub output-short : length out < row_count set plan * column_count set plan → RefusedBy 15 → Reported set plan out out scratch (replicate (length scratch) 0) r
-      output-short l k = refused-by (replicate (length scratch) 0) 15 (omega arith) (number_15 set plan (length out) (length scratch) a h l) k (rw a)
+      pub output-short : length out < row_count set plan * column_count set plan → Reported set plan out out scratch (replicate (length scratch) 0) (Err OutputShort)
+      output-short l = refused-by OutputShort (replicate (length scratch) 0) (number_15 set plan (length out) (length scratch) a h l) (rw a)
 
-      pub done : (out' : List ℤ) → row_count set plan * column_count set plan ≤ length out → r.refusal ≡ 0 → r.rows ≡ row_count set plan → r.columns ≡ column_count set plan
-          → out' ≡ report_codes set plan ++ drop (length (report_codes set plan)) out → Reported set plan out out' scratch (replicate (length scratch) 0) r
-      done out' l n m w o =
+      pub done : (out' : List ℤ) (r : Report) → row_count set plan * column_count set plan ≤ length out → r.rows ≡ row_count set plan → r.columns ≡ column_count set plan
+          → out' ≡ report_codes set plan ++ drop (length (report_codes set plan)) out → Reported set plan out out' scratch (replicate (length scratch) 0) (Ok r)
+      done out' r l m w o =
           let e = number_0 set plan (length out) (length scratch) a h l in
-          record { number = n ∙ sym e; rows = rw e m; columns = rw e w; output = rw e o; cleared = rw a }
+          record { number = sym e; rows = rw e m; columns = rw e w; output = rw e o; cleared = rw a }
 
 -- what is promised of a scratch that is still to be cleared holds once it is
-pub cleared-after : (set plan : List ℕ) (out out' : List ℤ) (scratch scratch' : List ℕ) (n : ℕ) (r : Report) → Reported set plan out out' scratch (replicate (length scratch) 0) r
+pub cleared-after : (set plan : List ℕ) (out out' : List ℤ) (scratch scratch' : List ℕ) (n : ℕ) (r : Result Report Refusal) → Reported set plan out out' scratch (replicate (length scratch) 0) r
     → scratch' ≡ replicate n 0 → n ≡ length scratch → Reported set plan out out' scratch scratch' r
 cleared-after set plan out out' scratch scratch' n r e c h = record {
   number = e.number;
@@ -198,11 +189,10 @@ evaluated set plan cells room rows columns a h g c =
     }
 
 -- the codes of the cells that were written
-pub written : (set plan cells : List ℕ) (room rows columns : ℕ) (out out' : List ℤ) → Evaluated set plan cells room rows columns → length cells ≡ room
-    → out' ≡ map code_of (take (rows * columns) cells) ++ drop (rows * columns) out → out' ≡ report_codes set plan ++ drop (length (report_codes set plan)) out
-written set plan cells room rows columns out out' e l o =
-    let fit : rows * columns ≤ length cells = omega (arith, e.inside) in
-    let n : rows * columns ≡ length (report_codes set plan) = sym (length-map (take (rows * columns) cells) code_of ∙ length-take-le (rows * columns) cells fit) ∙ ap length e.codes in
+pub written : (set plan cells : List ℕ) (room rows columns : ℕ) (out out' : List ℤ) → Evaluated set plan cells room rows columns
+    → out' ≡ map code_of (take (rows * columns) cells) ++ drop (length (take (rows * columns) cells)) out → out' ≡ report_codes set plan ++ drop (length (report_codes set plan)) out
+written set plan cells room rows columns out out' e o =
+    let n : length (take (rows * columns) cells) ≡ length (report_codes set plan) = sym (length-map (take (rows * columns) cells) code_of) ∙ ap length e.codes in
     o ∙ ap₂ (λ (l : List ℤ) (k : ℕ). l ++ drop k out) e.codes n
 
 -- ---- the counts of any answer
@@ -224,10 +214,17 @@ accepted-number : (set plan : List ℕ) (room scratch_room : ℕ) → report_num
 unfolding report_number
 accepted-number set plan room scratch_room e = (or-next (input_refusal set plan) _ e).0
 
-pub reported-few : (set plan : List ℕ) (out out' : List ℤ) (scratch scratch' : List ℕ) (r : Report) → Reported set plan out out' scratch scratch' r → (r.rows ≤ 4096) × (r.columns ≤ 32)
+pub reported-few : (set plan : List ℕ) (out out' : List ℤ) (scratch scratch' : List ℕ) (r : Result Report Refusal) → Reported set plan out out' scratch scratch' r → (answered_rows r ≤ 4096) × (answered_columns r ≤ 32)
 reported-few set plan out out' scratch scratch' r e =
     let z : ℕ = report_number set plan (length out) (length scratch) in
     let k : z ≡ 0 → (row_count set plan ≤ 4096) × (column_count set plan ≤ 32) = λ h. accepted-few set plan (accepted-number set plan (length out) (length scratch) h) in
     let m : count_after z (row_count set plan) ≤ 4096 = few z (row_count set plan) 4096 (λ h. (k h).0) in
     let w : count_after z (column_count set plan) ≤ 32 = few z (column_count set plan) 32 (λ h. (k h).1) in
     (omega (arith, e.rows), omega (arith, e.columns))
+
+-- the call's number is a refusal's, or 0
+pub listed-report : (set plan : List ℕ) (room scratch_room : ℕ) → Listed (report_number set plan room scratch_room)
+unfolding report_number
+listed-report set plan room scratch_room =
+    listed_next (input_refusal set plan) (or_next (scratch_number set plan scratch_room) (output_number set plan room)) (listed-input Second set plan)
+    (listed_next (scratch_number set plan scratch_room) (output_number set plan room) (listed_if _ ScratchShort) (listed_if _ OutputShort))

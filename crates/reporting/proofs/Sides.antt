@@ -1,5 +1,7 @@
 -- Columns that were found say of the cells what the node says of the environment. Assumes nothing.
-use Rattle.std.specs.Prelude.{if◌then◌else◌}
+use Rattle.std.specs.Coded.{×_prop, Unit-prop, le_prop}
+use mathlib.Core.Logic.{∥∥₁_elim}
+use Rattle.std.specs.Prelude.{if◌then◌else◌, Option, Some, None}
 use mathlib.Core.Path.{◌≡◌, refl, sym, ap, ◌∙◌, subst}
 use mathlib.Core.Bool.{Bool, true, false, not, ◌&&◌, ◌||◌, false≢true, and-eq-true_iff}
 use mathlib.Core.List.{List, map}
@@ -8,12 +10,14 @@ use native.Mathlib.Omega.{arith}
 use lib.Dec.{eqb}
 use lib.ListN.{length, take, get_or}
 use lib.Seq.{get_or-take}
-use borrow.Author.Tests.{eqb-true, eqb-false, eq-eqb, ne_eqb, lt-ltb, le-ltb}
+use borrow.Author.Tests.{eqb-true, eq-eqb, ne_eqb, lt-ltb, le-ltb}
 use Rattle.algebra.specs.Lists.{flip, filter, member}
-use Rattle.algebra.specs.Cells.{Aggregate, is_number, one_blank, eq, compares, aggregate, aggregate_within}
-use Rattle.algebra.specs.Plans.{Row, Env, bind, measure, test, truth, holds, gather_within}
+use Rattle.algebra.specs.Cells.{is_number, one_blank, eq, compares, aggregate, aggregate_within}
+use Rattle.algebra.specs.Plans.{Row, Env, bind, test, truth, holds, gather_within}
 use Rattle.algebra.proofs.Cells.{eqb-sym}
-use Rattle.reading.specs.Tree.{comparison_of, aggregate_of, form_of, node_test, operator_of}
+use Rattle.reading.specs.Tree.{comparison_of, form_of, node_test, operator_of}
+use Rattle.reading.specs.declared.comparison.Comparison.{Comparison}
+use Rattle.reading.specs.declared.comparison.Comparison.TheVariants.{Equal as SameCells}
 use Rattle.reading.specs.declared.plan.Node.{Node}
 use Rattle.reading.specs.declared.plan.Test.{Test}
 use Rattle.reading.specs.declared.plan.Test.TheVariants.{Always, Columns, Number}
@@ -21,14 +25,17 @@ use Rattle.reporting.specs.Index.{bucket_of, slot_of}
 use Rattle.reporting.specs.Keys.{has_test, has_keys, key_comparison, keys_hold}
 use Rattle.reporting.specs.Positions.{place_of}
 use Rattle.reporting.specs.Rows.{passing, gathered}
-use Rattle.reporting.specs.Sides.{side_cell, SideInside, SideFor, MeasuredFor, in_both, condition_holds, ConditionInside, ConditionFor, side_places, Equals, PlacesFor, FoundInside, meets, found_cells, found_cell, FoundFor}
+use Rattle.reporting.specs.Sides.{side_cell, SideInside, SideFor, aggregate_by, in_both, compared_holds, condition_holds, ComparedInside, ConditionInside, ConditionFor, side_places, Equals, PlacesFor, FoundInside, meets, found_cells, found_cell, FoundFor, FoundSomewhere}
+use Rattle.reporting.specs.declared.gather.AggregateKind.{AggregateKind}
+use Rattle.reporting.specs.declared.gather.AggregateKind.TheVariants.{Count, Sum, Least, Greatest}
 use Rattle.reporting.specs.declared.side.Side.{Side}
 use Rattle.reporting.specs.declared.side.Side.TheVariants.{Left, Right, Word}
+use Rattle.reporting.specs.declared.side.Compared.{Compared}
 use Rattle.reporting.specs.declared.side.Condition.{Condition}
 use Rattle.reporting.specs.declared.side.Found.{Found}
 use Rattle.reporting.proofs.Alike.{member-place}
 use Rattle.reporting.proofs.Envs.{bind-own, bind-other}
-use Rattle.reporting.proofs.Passing.{passing_of, over_of}
+use Rattle.reporting.proofs.Passing.{passing_of}
 
 -- ---- in wider rows
 pub side_wider : (s : Side) (w v w' v' : ℕ) → SideInside s w v → w ≤ w' → v ≤ v' → SideInside s w' v'
@@ -37,7 +44,11 @@ side_wider (Right place) w v w' v' p h g = omega arith
 side_wider (Word word) w v w' v' p h g = tt
 
 pub condition_wider : (c : Condition) (w v w' v' : ℕ) → ConditionInside c w v → w ≤ w' → v ≤ v' → ConditionInside c w' v'
-condition_wider c w v w' v' p h g = record { left = side_wider c.left w v w' v' p.left h g; right = side_wider c.right w v w' v' p.right h g }
+condition_wider c w v w' v' p h g = record { compared = go c.compared p.compared }
+  where
+    go : (k : Option Compared) → ComparedInside k w v → ComparedInside k w' v'
+    go None p = tt
+    go (Some k) p = (side_wider k.left w v w' v' p.0 h g, side_wider k.right w v w' v' p.1 h g)
 
 pub found_wider : (f : Found) (w v w' v' : ℕ) → FoundInside f w v → w ≤ w' → v ≤ v' → FoundInside f w' v'
 found_wider f w v w' v' p h g =
@@ -46,6 +57,30 @@ found_wider f w v w' v' p h g =
       test = condition_wider f.test w v w' v' p.test h g;
       measured = side_wider f.measured w v w' v' p.measured h g;
     }
+
+-- ---- that places lie inside has one proof, and so it follows where the columns were found in some environment
+side-prop : (s : Side) (w v : ℕ) → IsProp (SideInside s w v)
+side-prop (Left place) w v = le_prop
+side-prop (Right place) w v = le_prop
+side-prop (Word word) w v = Unit-prop
+
+compared-prop : (k : Option Compared) (w v : ℕ) → IsProp (ComparedInside k w v)
+compared-prop None w v = Unit-prop
+compared-prop (Some k) w v = ×_prop (side-prop k.left w v) (side-prop k.right w v)
+
+condition-prop : (c : Condition) (w v : ℕ) → IsProp (ConditionInside c w v)
+condition-prop c w v = λ p q i. record { compared = compared-prop c.compared w v p.compared q.compared i }
+
+found-prop : (f : Found) (w v : ℕ) → IsProp (FoundInside f w v)
+found-prop f w v = λ p q i.
+    record {
+      keys = condition-prop f.keys w v p.keys q.keys i;
+      test = condition-prop f.test w v p.test q.test i;
+      measured = side-prop f.measured w v p.measured q.measured i;
+    }
+
+pub somewhere_inside : {node : Node} {cs ds : List ℕ} {f : Found} → ∥ FoundSomewhere node cs ds f ∥₁ → FoundInside f (length cs) (length ds)
+somewhere_inside {node} {cs} {ds} {f} t = ∥∥₁_elim t (found-prop f (length cs) (length ds)) (λ s. s.found.inside)
 
 -- ---- only the front of a row is read
 module _ (w v : ℕ) (l r : Row) where
@@ -61,11 +96,19 @@ module _ (w v : ℕ) (l r : Row) where
 
   pub condition_left : (c : Condition) → ConditionInside c w v → condition_holds c (take w l) r ≡ condition_holds c l r
   unfolding condition_holds
-  condition_left c p = λ i. flip c.negated (c.always || compares (comparison_of c.comparison) (side_left c.left p.left i) (side_left c.right p.right i))
+  condition_left c p = ap (flip c.negated) (go c.compared p.compared)
+    where
+      go : (k : Option Compared) → ComparedInside k w v → compared_holds k (take w l) r ≡ compared_holds k l r
+      go None p = refl
+      go (Some k) p = λ i. compares (comparison_of k.comparison) (side_left k.left p.0 i) (side_left k.right p.1 i)
 
   pub condition_right : (c : Condition) → ConditionInside c w v → condition_holds c l (take v r) ≡ condition_holds c l r
   unfolding condition_holds
-  condition_right c p = λ i. flip c.negated (c.always || compares (comparison_of c.comparison) (side_right c.left p.left i) (side_right c.right p.right i))
+  condition_right c p = ap (flip c.negated) (go c.compared p.compared)
+    where
+      go : (k : Option Compared) → ComparedInside k w v → compared_holds k l (take v r) ≡ compared_holds k l r
+      go None p = refl
+      go (Some k) p = λ i. compares (comparison_of k.comparison) (side_right k.left p.0 i) (side_right k.right p.1 i)
 
   pub meets-left : (f : Found) → FoundInside f w v → meets f (take w l) r ≡ meets f l r
   meets-left f p = λ i. condition_left f.keys p.keys i && condition_left f.test p.test i
@@ -107,14 +150,6 @@ module _ (cs ds : List ℕ) (env : Env) (id : ℕ) where
         inside = tt;
       }
 
--- ---- what an aggregate measures
-module _ (cs ds : List ℕ) (env : Env) (code id : ℕ) where
-  pub measured-none : code ≡ 0 → MeasuredFor cs ds env code id (Word 0)
-  measured-none e = record { cell = λ l r. ap (λ (k : ℕ). measure (aggregate_of k id) (in_both cs ds env l r)) (sym e); inside = tt }
-
-  pub measured-column : (code ≡ 0 → ⊥) → (s : Side) → SideFor cs ds env id s → MeasuredFor cs ds env code id s
-  measured-column h s f = record { cell = λ l r. f.cell l r ∙ ap (λ (g : Aggregate). measure g (in_both cs ds env l r)) (sym (over_of code id h)); inside = f.inside }
-
 -- ---- the condition of a test
 module _ (cs ds : List ℕ) (env : Env) (negated : Bool) (form : Test) where
   -- a form is known: the truth of it is that of the test
@@ -122,66 +157,72 @@ module _ (cs ds : List ℕ) (env : Env) (negated : Bool) (form : Test) where
   known f e h = ap (λ (g : Test). holds (test negated (form_of g)) e) (sym h)
 
   pub always-found : form ≡ Always
-      → ConditionFor cs ds env (holds (test negated (form_of form))) (record { always = true; comparison = 0; left = Word 0; right = Word 0; negated = negated })
+      → ConditionFor cs ds env (holds (test negated (form_of form))) (record { compared = None; negated = negated })
   unfolding condition_holds truth
-  always-found h = record { same = λ l r. known Always (in_both cs ds env l r) h; inside = record { left = tt; right = tt } }
+  always-found h = record { same = λ l r. known Always (in_both cs ds env l r) h; inside = record { compared = tt } }
 
-  pub columns-found : (k x y : ℕ) (s t : Side) → form ≡ Columns k x y → SideFor cs ds env x s → SideFor cs ds env y t
-      → ConditionFor cs ds env (holds (test negated (form_of form))) (record { always = false; comparison = k; left = s; right = t; negated = negated })
+  pub columns-found : (k : Comparison) (x y : ℕ) (s t : Side) → form ≡ Columns k x y → SideFor cs ds env x s → SideFor cs ds env y t
+      → ConditionFor cs ds env (holds (test negated (form_of form))) (record { compared = Some (record { comparison = k; left = s; right = t }); negated = negated })
   unfolding condition_holds truth
   columns-found k x y s t h p q =
       record {
         same = λ l r. (λ i. flip negated (compares (comparison_of k) (p.cell l r i) (q.cell l r i))) ∙ known (Columns k x y) (in_both cs ds env l r) h;
-        inside = record { left = p.inside; right = q.inside };
+        inside = record { compared = (p.inside, q.inside) };
       }
 
-  pub number-found : (k x word : ℕ) (s : Side) → form ≡ Number k x word → SideFor cs ds env x s
-      → ConditionFor cs ds env (holds (test negated (form_of form))) (record { always = false; comparison = k; left = s; right = Word word; negated = negated })
+  pub number-found : (k : Comparison) (x word : ℕ) (s : Side) → form ≡ Number k x word → SideFor cs ds env x s
+      → ConditionFor cs ds env (holds (test negated (form_of form))) (record { compared = Some (record { comparison = k; left = s; right = Word word }); negated = negated })
   unfolding condition_holds truth
   number-found k x word s h p =
       record {
         same = λ l r. (λ i. flip negated (compares (comparison_of k) (p.cell l r i) word)) ∙ known (Number k x word) (in_both cs ds env l r) h;
-        inside = record { left = p.inside; right = tt };
+        inside = record { compared = (p.inside, tt) };
       }
 
 -- ---- the condition of keys
-pub keys_found : (cs ds : List ℕ) (env : Env) (node : Node) (has : Bool) (k : ℕ) (s t : Side) → has ≡ has_keys node.kind → comparison_of k ≡ key_comparison node.kind node.comparison
-    → SideFor cs ds env node.left s → SideFor cs ds env node.right t
-    → ConditionFor cs ds env (keys_hold node.kind node) (record { always = not has; comparison = k; left = s; right = t; negated = false })
-unfolding condition_holds keys_hold
-keys_found cs ds env node has k s t h e p q =
-    record {
-      same = λ l r i. not (h i) || compares (e i) (p.cell l r i) (q.cell l r i);
-      inside = record { left = p.inside; right = q.inside };
-    }
+module _ (cs ds : List ℕ) (env : Env) (node : Node) where
+  pub no_keys : has_keys node.kind ≡ false → ConditionFor cs ds env (keys_hold node.kind node) (record { compared = None; negated = false })
+  unfolding condition_holds keys_hold
+  no_keys h = record { same = λ l r. rw h; inside = record { compared = tt } }
+
+  pub keys_found : (k : Comparison) (s t : Side) → has_keys node.kind ≡ true → comparison_of k ≡ key_comparison node.kind node.comparison
+      → SideFor cs ds env node.left s → SideFor cs ds env node.right t
+      → ConditionFor cs ds env (keys_hold node.kind node) (record { compared = Some (record { comparison = k; left = s; right = t }); negated = false })
+  unfolding condition_holds keys_hold
+  keys_found k s t h e p q =
+      record {
+        same = λ l r. rw h (λ i. compares (e i) (p.cell l r i) (q.cell l r i));
+        inside = record { compared = (p.inside, q.inside) };
+      }
 
 -- keys that are compared by =, by their sides
-places_for : (c : Condition) → c.always ≡ false → c.negated ≡ false → c.comparison ≡ 0 → (s t : Side) → c.left ≡ s → c.right ≡ t → PlacesFor c (side_places s t)
-unfolding condition_holds
-places_for c a n k (Left place) (Left other) x y = tt
-places_for c a n k (Left place) (Right other) x y =
-    record {
-      same = λ l r i. flip (n i) (a i || compares (comparison_of (k i)) (side_cell (x i) l r) (side_cell (y i) l r));
-      inside = λ w v p. (subst (λ (s : Side). SideInside s w v) x p.left, subst (λ (s : Side). SideInside s w v) y p.right);
-    }
-places_for c a n k (Left place) (Word word) x y = tt
-places_for c a n k (Right place) t x y = tt
-places_for c a n k (Word word) t x y = tt
+module _ (c : Condition) (k : Compared) (negated : c.negated ≡ false) (compared : c.compared ≡ Some k) (is : k.comparison ≡ SameCells) where
+  places_for : (s t : Side) → k.left ≡ s → k.right ≡ t → PlacesFor c (side_places s t)
+  unfolding condition_holds
+  places_for (Left place) (Left other) x y = tt
+  places_for (Left place) (Right other) x y =
+      record {
+        same = λ l r. ap (λ (o : Option Compared). flip c.negated (compared_holds o l r)) compared ∙ (λ i. flip (negated i) (compares (comparison_of (is i)) (side_cell (x i) l r) (side_cell (y i) l r)));
+        inside = λ w v p.
+            let q = subst (λ (o : Option Compared). ComparedInside o w v) compared p.compared in
+            (subst (λ (s : Side). SideInside s w v) x q.0, subst (λ (s : Side). SideInside s w v) y q.1);
+      }
+  places_for (Left place) (Word word) x y = tt
+  places_for (Right place) t x y = tt
+  places_for (Word word) t x y = tt
 
-pub equal_places : (c : Condition) → c.always ≡ false → c.negated ≡ false → c.comparison ≡ 0 → PlacesFor c (side_places c.left c.right)
-equal_places c a n k = places_for c a n k c.left c.right refl refl
+  pub equal_places : PlacesFor c (side_places k.left k.right)
+  equal_places = places_for k.left k.right refl refl
 
 -- ---- what is found is what the node says
 
 -- an aggregate of cells does not read its column
-pub aggregate-cells : (code c d : ℕ) (xs : List ℕ) → aggregate (aggregate_of code c) xs ≡ aggregate (aggregate_of code d) xs
+pub aggregate-cells : (kind : AggregateKind) (c d : ℕ) (xs : List ℕ) → aggregate (aggregate_by kind c) xs ≡ aggregate (aggregate_by kind d) xs
 unfolding aggregate_within
-aggregate-cells code c d xs = go (eqb code 0) refl
-  where
-    go : (b : Bool) → eqb code 0 ≡ b → aggregate (aggregate_of code c) xs ≡ aggregate (aggregate_of code d) xs
-    go true e = rw e
-    go false e =
-        ap (λ (g : Aggregate). aggregate g xs) (over_of code c (eqb-false code 0 e)) ∙ sym (ap (λ (g : Aggregate). aggregate g xs) (over_of code d (eqb-false code 0 e)))
+aggregate-cells Count c d xs = refl
+aggregate-cells Sum c d xs = refl
+aggregate-cells Least c d xs = refl
+aggregate-cells Greatest c d xs = refl
 
 module _ (node : Node) (cs ds : List ℕ) (env : Env) (f : Found) (found : FoundFor node cs ds env f) (tested : has_test node.kind ≡ true) where
   pub found-passing : (l r : Row) → meets f l r ≡ passing (operator_of node) (in_both cs ds env l r)
@@ -194,8 +235,8 @@ module _ (node : Node) (cs ds : List ℕ) (env : Env) (f : Found) (found : Found
   pub found-gathered : (l : Row) (rs : List Row) → found_cell f l rs ≡ gathered (operator_of node) ds (bind cs l env) rs
   unfolding found_cells gather_within
   found-gathered l rs =
-      aggregate-cells f.code 0 node.column (found_cells f l rs)
-      ∙ (λ i. aggregate (found.code i) (map (λ r. found.measured l r i) (filter (λ r. found-passing l r i) rs)))
+      aggregate-cells f.aggregate 0 node.column (found_cells f l rs)
+      ∙ (λ i. aggregate (found.aggregate i) (map (λ r. found.measured l r i) (filter (λ r. found-passing l r i) rs)))
 
 -- ---- keys that are compared by =
 and-false : (b : Bool) → (b && false) ≡ false

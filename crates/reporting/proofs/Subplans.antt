@@ -1,4 +1,5 @@
 -- What the trees at all places of a whole plan inherit from the plan's own tree. Assumes nothing.
+use Rattle.std.specs.Prelude.{Err, Ok}
 use Prim.Native.Nat.{ℕ, zero, suc, ◌+◌, ◌*◌, ◌-◌, ◌≤◌, ◌<◌, min}
 use mathlib.Core.Bool.{true, false}
 use mathlib.Core.Path.{◌≡◌, refl, ap, ap₂, sym, ◌∙◌, subst}
@@ -23,10 +24,12 @@ use Rattle.reading.specs.TableSet.{tables_of}
 use Rattle.reading.specs.Plan.{nodes_of}
 use Rattle.reading.specs.Tree.{plan_at, plan_of, whole_tree}
 use Rattle.reading.specs.Nodes.{arity}
-use Rattle.reading.specs.Check.{or_next, input_refusal, check_of, check_as}
-use Rattle.reading.specs.declared.input.Checked.TheVariants.{Refused}
+use Rattle.reading.specs.Refusals.{refusal_number}
+use Rattle.reading.specs.Check.{or_next, input_refusal, check_of}
+use Rattle.reading.specs.declared.refusal.Refusal.{Refusal}
 use Rattle.reading.proofs.Trees.{plan_past, plan_case, first_tree, second_tree}
 use Rattle.reading.proofs.Places.{whole-size}
+use Rattle.reading.proofs.Acceptance.{number-positive}
 use Rattle.reporting.specs.Rows.{chunk, env_of, Gives, acted, acted_columns}
 use Rattle.reporting.specs.Evaluation.{Sound, Ready, UnaryRoom}
 use Rattle.reporting.specs.Report.{scratch_number, tree_cells, rows_number, rows_left, RowsGiven}
@@ -36,7 +39,7 @@ use Rattle.reporting.proofs.Soundness.{sound_child, sound-left, sound-right, sou
 use Rattle.reporting.proofs.Lent.{tail_part}
 use Rattle.reporting.proofs.Children.{Single, single}
 use Rattle.reporting.proofs.Arms.{kid_of, unary_arm}
-use Rattle.reporting.proofs.Reports.{answer-refused, or-next, whole-input, zeros_outside, ready}
+use Rattle.reporting.proofs.Reports.{refused-input, or-next, whole-input, zeros_outside, ready}
 
 module _ (plan : List ℕ) (Q : Plan → Type 0) (child : (u : Unary) (p : Plan) → Q (one u p) → Q p) (left : (b : Binary) (e f : Plan) → Q (two b e f) → Q e)
     (right : (b : Binary) (e f : Plan) → Q (two b e f) → Q f)
@@ -174,9 +177,8 @@ module _ (set plan scratch : List ℕ) where
   turned_by zero number e n h = absurd (omega arith)
   turned_by (suc z) number e n h = (rw e (sym n), rw e)
 
-  pub turned-input : (number : ℕ) → check_of set plan ≡ Refused number → Turned number scratch
-  unfolding check_as
-  turned-input number e = let (f, p) = answer-refused (input_refusal set plan) _ _ _ number e in turned_by (input_refusal set plan) number refl f p
+  pub turned-input : (refusal : Refusal) → check_of set plan ≡ Err refusal → Turned (refusal_number refusal) scratch
+  turned-input refusal e = let (f, p) = refused-input set plan refusal e in turned_by (refusal_number refusal) (refusal_number refusal) f refl p
 
   module _ (a : input_refusal set plan ≡ 0) where
     pub turned-short : (scratch' : List ℕ) → length scratch < need (tables_of set) (plan_of plan) → scratch' ≡ replicate (length scratch) 0 → Turned 16 scratch'
@@ -199,34 +201,33 @@ module _ (set plan scratch : List ℕ) where
         ],
       )
 
-  module _ (p : Plan) (r : Report) where
+  module _ (p : Plan) where
     -- one that is
-    rows-turned-by : (number : ℕ) (scratch' : List ℕ) (z s : ℕ) → input_refusal set plan ≡ z → scratch_number set plan (length scratch) ≡ s → number ≡ or_next z s → scratch' ≡ rows_left z s scratch scratch
-        → (number ≡ 0 → ⊥) → (r.refusal ≡ number) × (r.rows ≡ 0) × (r.columns ≡ 0) → RowsGiven set plan p scratch scratch' r
+    rows-turned-by : (k : Refusal) (scratch' : List ℕ) (z s : ℕ) → input_refusal set plan ≡ z → scratch_number set plan (length scratch) ≡ s → refusal_number k ≡ or_next z s → scratch' ≡ rows_left z s scratch scratch
+        → RowsGiven set plan p scratch scratch' (Err k)
     unfolding rows_number
-    rows-turned-by number scratch' zero zero e f n c l k = absurd (l n)
-    rows-turned-by number scratch' zero (suc s) e f n c l k = record { number = rw (e, f) (k.0 ∙ n); rows = rw (e, f) k.1; columns = rw (e, f) k.2; cells = rw (e, f) c }
-    rows-turned-by number scratch' (suc z) s e f n c l k = record { number = rw e (k.0 ∙ n); rows = rw e k.1; columns = rw e k.2; cells = rw e c }
+    rows-turned-by k scratch' zero zero e f n c = absurd (omega (arith, number-positive k))
+    rows-turned-by k scratch' zero (suc s) e f n c = record { number = rw (e, f) n; rows = rw (e, f); columns = rw (e, f); cells = rw (e, f) c }
+    rows-turned-by k scratch' (suc z) s e f n c = record { number = rw e n; rows = rw e; columns = rw e; cells = rw e c }
 
-    pub rows-turned : (number : ℕ) (scratch' : List ℕ) → Turned number scratch' → (number ≡ 0 → ⊥) → (r.refusal ≡ number) × (r.rows ≡ 0) × (r.columns ≡ 0)
-        → RowsGiven set plan p scratch scratch' r
+    pub rows-turned : (k : Refusal) (scratch' : List ℕ) → Turned (refusal_number k) scratch' → RowsGiven set plan p scratch scratch' (Err k)
     unfolding rows_number
-    rows-turned number scratch' t l k = rows-turned-by number scratch' (input_refusal set plan) (scratch_number set plan (length scratch)) refl refl t.0 t.1 l k
+    rows-turned k scratch' t = rows-turned-by k scratch' (input_refusal set plan) (scratch_number set plan (length scratch)) refl refl t.0 t.1
 
     -- the rows stand in front of zeros
-    pub rows-done : (cells scratch' : List ℕ) (rows columns : ℕ) → input_refusal set plan ≡ 0 → need (tables_of set) (plan_of plan) ≤ length scratch → length cells ≡ length scratch
-        → EvaluatedAt (tables_of set) p cells (length scratch) rows columns → (r.refusal ≡ 0) × (r.rows ≡ rows) × (r.columns ≡ columns)
-        → scratch' ≡ take (rows * columns) cells ++ replicate (length cells - rows * columns) 0 → RowsGiven set plan p scratch scratch' r
+    pub rows-done : (r : Report) (cells scratch' : List ℕ) (rows columns : ℕ) → input_refusal set plan ≡ 0 → need (tables_of set) (plan_of plan) ≤ length scratch → length cells ≡ length scratch
+        → EvaluatedAt (tables_of set) p cells (length scratch) rows columns → (r.rows ≡ rows) × (r.columns ≡ columns)
+        → scratch' ≡ take (rows * columns) cells ++ replicate (length cells - rows * columns) 0 → RowsGiven set plan p scratch scratch' (Ok r)
     unfolding rows_number
-    rows-done cells scratch' rows columns a h l v k c =
+    rows-done r cells scratch' rows columns a h l v k c =
         let e : ltb (length scratch) (need (tables_of set) (plan_of plan)) ≡ false = le-ltb (length scratch) (need (tables_of set) (plan_of plan)) h in
         let u : ℕ = rows * columns in
         let fit : u ≤ length cells = omega (arith, v.inside) in
         let n : u ≡ length (tree_cells set p) = sym (length-take-le u cells fit) ∙ ap length v.front in
         record {
-          number = rw (a, e) k.0;
-          rows = rw (a, e) (k.1 ∙ v.rows_are);
-          columns = rw (a, e) (k.2 ∙ v.columns_are);
+          number = rw (a, e);
+          rows = rw (a, e) (k.0 ∙ v.rows_are);
+          columns = rw (a, e) (k.1 ∙ v.columns_are);
           cells = rw (a, e) (c ∙ ap₂ (λ (front : List ℕ) (m : ℕ). front ++ replicate m 0) v.front (ap₂ ◌-◌ l n));
         }
 

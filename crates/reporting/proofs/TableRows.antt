@@ -1,27 +1,29 @@
 -- A table's cells, row by row, are its rows. Assumes nothing.
-use Prim.Native.Nat.{ℕ, zero, suc, ◌+◌, ◌-◌, ◌*◌, ◌/◌, ◌≤◌, ◌<◌}
+use Prim.Native.Nat.{ℕ, zero, suc, ◌+◌, ◌*◌, ◌/◌, ◌≤◌, ◌<◌}
+use mathlib.Core.Logic.{◌⊎◌}
 use mathlib.Core.Path.{◌≡◌, refl, sym, ap, ap₂, subst, ◌∙◌}
 use mathlib.Core.List.{List, [], ◌∷◌, ◌++◌, map, map-append}
 use native.Mathlib.Nat.{add-zero, zero-add, suc-add, add-suc, mul-suc, mul-zero}
 use native.Mathlib.Numerals.{add-one}
 use native.Mathlib.Omega.{arith}
-use borrow.Author.Tests.{lt-ltb, le-ltb}
-use lib.ListN.{length, take, drop, set, replicate, length-map}
-use lib.Seq.{take_at, drop_at, take-take, take-nil, take-add, take-suc-set}
+use borrow.Author.Tests.{lt-ltb}
+use lib.ListN.{length, take, drop, set, length-map}
+use lib.Seq.{take_at, drop_at, take-take, take-nil, take-suc-set}
 use Rattle.algebra.specs.Lists.{upward}
 use Rattle.algebra.specs.Plans.{Row}
 use Rattle.reading.specs.Bytes.{unsigned_at}
 use Rattle.reading.specs.Versions.{word_of}
 use Rattle.reading.specs.TableSet.{table_version, columns_of, rows_of, cells_of, cell_at, table_from, table_rows, tables_of}
 use Rattle.reading.specs.Tree.{operator_by, operator_of}
+use Rattle.reading.specs.declared.kinds.Kind.{Kind}
+use Rattle.reading.specs.declared.kinds.Kind.TheVariants.{Unit, Scan, Other}
 use Rattle.reading.specs.declared.plan.Node.{Node}
 use Rattle.reading.specs.declared.version.Version.{Version}
 use Rattle.reading.specs.declared.version.Version.TheVariants.{Second}
 use Rattle.reading.proofs.BoundLaws.{length-rows}
-use Rattle.reading.proofs.Operators.{by_kind, kind-above}
+use Rattle.reading.proofs.Operators.{each_kind, one_of, just_other}
 use Rattle.reading.proofs.Places.{upward_append, upward-more, upward-length}
 use Rattle.reporting.specs.Rows.{chunk, Gives}
-use Rattle.reporting.specs.Written.{Written}
 use Rattle.reporting.specs.Evaluation.{leaf_given, leaf_width, leaf_most}
 use Rattle.reporting.proofs.Chunks.{times_suc}
 
@@ -42,26 +44,6 @@ next-cell f cells i e h =
 -- a cell that the table has is the word of its bytes
 pub cell-word : (from : List ℕ) (i : ℕ) → i < length from / 8 → word_of Second (unsigned_at 8 from (8 * i)) ≡ cell_at Second from i
 cell-word from i h = simp (lt-ltb _ _ h)
-
--- past the table's last cell every cell is blank
-blank-cells : (from : List ℕ) (n k : ℕ) → ((j : ℕ) → k ≤ j → j < k + n → length from / 8 ≤ j) → replicate n 0 ≡ map (cell_at Second from) (upward n k)
-blank-cells from zero k h = refl
-blank-cells from (suc n) k h =
-    let e : 0 ≡ cell_at Second from k = simp (le-ltb _ _ (h k (omega arith) (omega arith))) in
-    ap₂ (λ (x : ℕ) (l : List ℕ). x ∷ l) e (blank-cells from n (suc k) (λ j a b. h j (omega arith) (omega arith)))
-
--- the first k cells were written to the front, and then blanks up to n
-pub cells_blanks : (from c d : List ℕ) (k n : ℕ) → take k c ≡ map (cell_at Second from) (upward k 0) → Written k (n - k) (replicate (n - k) 0) c d → k ≤ n
-    → ((j : ℕ) → k ≤ j → j < n → length from / 8 ≤ j) → take n d ≡ map (cell_at Second from) (upward n 0)
-cells_blanks from c d k n e p h past =
-    let f : ℕ → ℕ = cell_at Second from in
-    let sum : k + (n - k) ≡ n = omega arith in
-    let z : 0 + k ≡ k = omega arith in
-    let front : take k d ≡ map f (upward k 0) = p.before ∙ e in
-    let rest : take (n - k) (drop k d) ≡ map f (upward (n - k) (0 + k)) =
-    p.here ∙ blank-cells from (n - k) k (λ j a b. past j a (omega arith)) ∙ ap (λ (a : ℕ). map f (upward (n - k) a)) (sym z) in
-    ap (λ (m : ℕ). take m d) (sym sum) ∙ take-add k (n - k) d ∙ ap₂ (λ (a b : List ℕ). a ++ b) front rest
-    ∙ sym (map-append f (upward k 0) (upward (n - k) (0 + k))) ∙ ap (map f) (sym (upward_append k (n - k) 0)) ∙ ap (λ (m : ℕ). map f (upward m 0)) sum
 
 -- numbers counted from a
 from : (f : ℕ → ℕ) (n a b : ℕ) → map f (upward n (a + b)) ≡ map (λ c. f (a + c)) (upward n b)
@@ -103,36 +85,33 @@ table-gives table cells from v r n o e m f t = record {
 -- ---- a node with no children, by its kind
 
 module _ (set : List ℕ) (node : Node) (r : ℕ) (cells : List ℕ) where
-  abbrev Gives-leaf : ℕ → Type 0
+  abbrev Gives-leaf : Kind → Type 0
   Gives-leaf k = Gives (leaf_given (tables_of set) (operator_by k node)) (leaf_width (tables_of set) (operator_by k node)) (leaf_most (tables_of set) (operator_by k node)) r cells
 
   abbrev table : List ℕ
   table = table_from node.arg set
 
-  pub scan-gives : node.kind ≡ 1 → Gives (table_rows table) (columns_of table) (rows_of table) r cells → Gives-leaf node.kind
+  pub scan-gives : node.kind ≡ Scan → Gives (table_rows table) (columns_of table) (rows_of table) r cells → Gives-leaf node.kind
   unfolding operator_by
   scan-gives e g = subst Gives-leaf (sym e) (rw (upward-length (columns_of table) node.id, length-rows table) g)
 
-pub unit-gives : (set : List ℕ) (node : Node) (cells : List ℕ) → node.kind ≡ 0 → Gives-leaf set node 1 cells node.kind
+pub unit-gives : (set : List ℕ) (node : Node) (cells : List ℕ) → (node.kind ≡ Unit) ⊎ ((byte : ℕ) × (node.kind ≡ Other byte)) → Gives-leaf set node 1 cells node.kind
 unfolding operator_by chunk
-unit-gives set node cells e = subst (Gives-leaf set node 1 cells) (sym e) (record { is = refl; few = omega arith })
+unit-gives set node cells =
+    one_of (Gives-leaf set node 1 cells) (record { is = refl; few = omega arith }) (just_other (Gives-leaf set node 1 cells) (λ byte. record { is = refl; few = omega arith }))
 
-pub above-gives : (set : List ℕ) (node : Node) (cells : List ℕ) → 14 < node.kind → Gives-leaf set node 1 cells node.kind
-unfolding chunk
-above-gives set node cells h = rw (kind-above node node.kind h) (record { is = refl; few = omega arith })
-
-pub none-gives : (set : List ℕ) (node : Node) (cells : List ℕ) → node.kind < 15 → (node.kind ≡ 0 → ⊥) → (node.kind ≡ 1 → ⊥) → Gives-leaf set node 0 cells node.kind
+pub none-gives : (set : List ℕ) (node : Node) (cells : List ℕ) → (node.kind ≡ Scan → ⊥) → (node.kind ≡ Unit → ⊥) → ((byte : ℕ) → node.kind ≡ Other byte → ⊥) → Gives-leaf set node 0 cells node.kind
 unfolding operator_by chunk
 none-gives set node cells =
-    by_kind (λ k. k < 15 → (k ≡ 0 → ⊥) → (k ≡ 1 → ⊥) → Gives-leaf set node 0 cells k)
-    (λ h a b. absurd (a refl)) (λ h a b. absurd (b refl)) none none none none none none none none none none none none none
-    (λ k g h a b. absurd (omega arith)) node.kind
+    each_kind (λ k. (k ≡ Scan → ⊥) → (k ≡ Unit → ⊥) → ((byte : ℕ) → k ≡ Other byte → ⊥) → Gives-leaf set node 0 cells k)
+    (λ a b c. absurd (b refl)) (λ a b c. absurd (a refl)) none none none none none none none none none none none none none
+    (λ k a b c. absurd (c k refl)) node.kind
   where
     none : {A B C : Type 0} → A → B → C → Gives [] 0 0 0 cells
     none a b c = record { is = refl; few = omega arith }
 
 -- the room that a Scan asks for
-pub scan-room : (set : List ℕ) (node : Node) (n : ℕ) → node.kind ≡ 1 → leaf_most (tables_of set) (operator_of node) * leaf_width (tables_of set) (operator_of node) ≤ n
+pub scan-room : (set : List ℕ) (node : Node) (n : ℕ) → node.kind ≡ Scan → leaf_most (tables_of set) (operator_of node) * leaf_width (tables_of set) (operator_of node) ≤ n
     → rows_of (table_from node.arg set) * columns_of (table_from node.arg set) ≤ n
 unfolding operator_by
 scan-room set node n e h =

@@ -14,8 +14,7 @@ use Rattle.algebra.specs.Plans.{Row}
 use Rattle.algebra.proofs.Lists.{filter-length}
 use Rattle.algebra.proofs.Cells.{eqb-sym}
 use Rattle.algebra.proofs.Places.{next-less}
-use Rattle.reading.specs.Tree.{aggregate_of}
-use Rattle.reporting.specs.Sides.{side_cell, FoundInside, meets, found_cells, found_cell}
+use Rattle.reporting.specs.Sides.{side_cell, aggregate_by, FoundInside, meets, found_cells, found_cell}
 use Rattle.reporting.specs.Tallies.{not_blank, sum_in, Tallies, Bounded, lesser, added, tally_summary, tallied}
 use Rattle.reporting.specs.declared.gather.Tally.{Tally}
 use Rattle.reporting.specs.declared.side.Found.{Found}
@@ -192,10 +191,10 @@ module _ (f : Found) (l : Row) (all : List Row) where
     tallying_few = omega (arith, tallying_count)
 
     -- no row is left: the aggregate is read off
-    pub tallying_done : rows ≡ [] → (r : ℕ) → ((column : ℕ) → r ≡ tallied (aggregate_of f.code column) t) → r ≡ found_cell f l all
+    pub tallying_done : rows ≡ [] → (r : ℕ) → ((column : ℕ) → r ≡ tallied (aggregate_by f.aggregate column) t) → r ≡ found_cell f l all
     tallying_done none r e =
         let whole : found_cells f l all ≡ p.cells = p.so_far ∙ ap (λ (xs : List ℕ). p.cells ++ xs) (ap (found_cells f l) none ∙ cells-none f l) ∙ append-nil p.cells in
-        e 0 ∙ sym (ap (aggregate (aggregate_of f.code 0)) whole ∙ tallies_read (aggregate_of f.code 0) p.cells t p.says)
+        e 0 ∙ sym (ap (aggregate (aggregate_by f.aggregate 0)) whole ∙ tallies_read (aggregate_by f.aggregate 0) p.cells t p.says)
 
     -- the row at hand is met, or it is not
     module _ (w v : ℕ) (inside : FoundInside f w v) (rest : List Row) (r : Row) (first : rows ≡ take v r ∷ rest) where

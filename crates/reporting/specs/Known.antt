@@ -1,11 +1,12 @@
 -- Aggregates kept by key: where what a node asks and measures is the same for every left row, left rows with one key have one aggregate.
 -- Private contracts speak of these. Definitions only.
-use Rattle.std.specs.Prelude.{ℕ, Bool, true, false, ◌≡◌, List, eqb, length, get_or}
+use Rattle.std.specs.Prelude.{ℕ, Bool, true, false, ◌&&◌, ◌≡◌, Option, Some, None, List, eqb, length, get_or}
 use Rattle.algebra.specs.Plans.{Row}
 use Rattle.reporting.specs.Index.{before}
 use Rattle.reporting.specs.Sides.{side_cell, condition_holds, found_cell}
 use Rattle.reporting.specs.declared.side.Side.{Side}
 use Rattle.reporting.specs.declared.side.Side.TheVariants.{Left, Right, Word}
+use Rattle.reporting.specs.declared.side.Compared.{Compared}
 use Rattle.reporting.specs.declared.side.Found.{Found}
 
 -- whether a side is the same for every left row
@@ -13,6 +14,11 @@ abbrev pub side_shared : Side → Bool
 side_shared (Left place) = false
 side_shared (Right place) = true
 side_shared (Word word) = true
+
+-- .. and whether what is compared is
+abbrev pub compared_shared : Option Compared → Bool
+compared_shared None = true
+compared_shared (Some k) = side_shared k.left && side_shared k.right
 
 -- the test and what is measured are the same for every left row
 pub record Shared (f : Found) : Type 0 where

@@ -3,11 +3,13 @@ pub mod Rows
 pub mod Index
 pub mod Positions
 pub mod Sides
+pub mod Held
 pub mod Known
 pub mod Grouping
 pub mod Merging
 pub mod Written
 pub mod Evaluation
+pub mod Asked
 pub mod Tallies
 pub mod Columns
 pub mod Report

@@ -1,13 +1,15 @@
 -- The report, and the answer of the reporting call (docs/DEFINITION.md, "Rows" and "The calls"). A set and a plan are lists of bytes.
 -- Definitions only.
-use Rattle.std.specs.Prelude.{ℕ, zero, suc, ◌*◌, ◌-◌, ◌≡◌, List, ◌++◌, map, ltb, ℤ, pos, ◌-ℤ◌, length, drop, replicate, if◌then◌else◌}
+use Rattle.std.specs.Prelude.{ℕ, zero, suc, ◌*◌, ◌-◌, ◌≡◌, List, ◌++◌, map, ltb, ℤ, pos, ◌-ℤ◌, length, drop, replicate, if◌then◌else◌, Result, Ok, Err}
 use Rattle.algebra.specs.Lists.{flat_map}
 use Rattle.algebra.specs.Plans.{Row, Plan, columns, eval}
 use Rattle.algebra.specs.Refusals.{need}
 use Rattle.algebra.specs.Rules.{outside}
 use Rattle.reading.specs.TableSet.{tables_of}
 use Rattle.reading.specs.Tree.{plan_of}
+use Rattle.reading.specs.Refusals.{number_of}
 use Rattle.reading.specs.Check.{or_next, input_refusal}
+use Rattle.reading.specs.declared.refusal.Refusal.{Refusal}
 use Rattle.reporting.specs.declared.answer.Report.{Report}
 
 -- ---- the report
@@ -66,11 +68,21 @@ abbrev pub scratch_after : ℕ → List ℕ → List ℕ
 scratch_after zero scratch = replicate (length scratch) 0
 scratch_after (suc number) scratch = scratch
 
+-- ---- what is returned: the counts, or a refusal, which has zero counts
+
+abbrev pub answered_rows : Result Report Refusal → ℕ
+answered_rows (Ok report) = report.rows
+answered_rows (Err refusal) = 0
+
+abbrev pub answered_columns : Result Report Refusal → ℕ
+answered_columns (Ok report) = report.columns
+answered_columns (Err refusal) = 0
+
 -- ---- the whole answer: r is returned, out and scratch become out' and scratch'
-pub record Reported (set plan : List ℕ) (out out' : List ℤ) (scratch scratch' : List ℕ) (r : Report) : Type 0 where
-  pub number : r.refusal ≡ report_number set plan (length out) (length scratch)
-  pub rows : r.rows ≡ count_after (report_number set plan (length out) (length scratch)) (row_count set plan)
-  pub columns : r.columns ≡ count_after (report_number set plan (length out) (length scratch)) (column_count set plan)
+pub record Reported (set plan : List ℕ) (out out' : List ℤ) (scratch scratch' : List ℕ) (r : Result Report Refusal) : Type 0 where
+  pub number : number_of r ≡ report_number set plan (length out) (length scratch)
+  pub rows : answered_rows r ≡ count_after (report_number set plan (length out) (length scratch)) (row_count set plan)
+  pub columns : answered_columns r ≡ count_after (report_number set plan (length out) (length scratch)) (column_count set plan)
   pub output : out' ≡ output_after (report_number set plan (length out) (length scratch)) (report_codes set plan) out
   pub cleared : scratch' ≡ scratch_after (input_refusal set plan) scratch
 
@@ -94,8 +106,8 @@ rows_left zero (suc short) cells scratch = replicate (length scratch) 0
 rows_left zero zero cells scratch = cells ++ replicate (length scratch - length cells) 0
 
 -- the rows of a tree p, over the tables of a set and in the scratch that a plan needs
-pub record RowsGiven (set plan : List ℕ) (p : Plan) (scratch scratch' : List ℕ) (r : Report) : Type 0 where
-  pub number : r.refusal ≡ rows_number set plan (length scratch)
-  pub rows : r.rows ≡ count_after (rows_number set plan (length scratch)) (length (tree_rows set p))
-  pub columns : r.columns ≡ count_after (rows_number set plan (length scratch)) (length (columns (tables_of set) p))
+pub record RowsGiven (set plan : List ℕ) (p : Plan) (scratch scratch' : List ℕ) (r : Result Report Refusal) : Type 0 where
+  pub number : number_of r ≡ rows_number set plan (length scratch)
+  pub rows : answered_rows r ≡ count_after (rows_number set plan (length scratch)) (length (tree_rows set p))
+  pub columns : answered_columns r ≡ count_after (rows_number set plan (length scratch)) (length (columns (tables_of set) p))
   pub cells : scratch' ≡ rows_left (input_refusal set plan) (scratch_number set plan (length scratch)) (tree_cells set p) scratch

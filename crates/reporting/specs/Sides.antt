@@ -1,19 +1,23 @@
 -- Columns found once for a node: where its keys, its test and its aggregate read their cells, of a left row and a right row. Private
 -- contracts speak of these. Definitions only.
-use Rattle.std.specs.Prelude.{ℕ, ◌<◌, Bool, true, ◌&&◌, ◌||◌, ◌≡◌, List, map, eqb, length, get_or, if◌then◌else◌}
+use Rattle.std.specs.Prelude.{ℕ, ◌<◌, Bool, true, false, ◌&&◌, ◌≡◌, Option, Some, None, List, map, length, get_or}
 use Rattle.algebra.specs.Lists.{flip, filter, any}
-use Rattle.algebra.specs.Cells.{eq, compares, aggregate}
+use Rattle.algebra.specs.Cells.{eq, compares, Aggregate, count, over, sum, least, greatest, aggregate}
 use Rattle.algebra.specs.Plans.{Row, Env, bind, measure, holds}
-use Rattle.reading.specs.Tree.{comparison_of, aggregate_of, node_test, operator_of}
+use Rattle.reading.specs.Tree.{comparison_of, node_test, operator_of}
+use Rattle.reading.specs.declared.kinds.Kind.{Kind}
+use Rattle.reading.specs.declared.kinds.Kind.TheVariants.{Anti, Every}
 use Rattle.reading.specs.declared.plan.Node.{Node}
 use Rattle.reporting.specs.Keys.{keys_hold}
 use Rattle.reporting.specs.Rows.{aggregate_in}
+use Rattle.reporting.specs.declared.gather.AggregateKind.{AggregateKind}
+use Rattle.reporting.specs.declared.gather.AggregateKind.TheVariants.{Count, Sum, Least, Greatest}
 use Rattle.reporting.specs.declared.side.Side.{Side}
 use Rattle.reporting.specs.declared.side.Side.TheVariants.{Left, Right, Word}
+use Rattle.reporting.specs.declared.side.Compared.{Compared}
 use Rattle.reporting.specs.declared.side.Condition.{Condition}
 use Rattle.reporting.specs.declared.side.Found.{Found}
 use Rattle.reporting.specs.declared.side.KeyPlaces.{KeyPlaces}
-use Rattle.reporting.specs.declared.side.KeyPlaces.TheVariants.{Equal, Other}
 
 -- ---- a side
 
@@ -38,19 +42,34 @@ pub record SideFor (cs ds : List ℕ) (env : Env) (id : ℕ) (s : Side) : Type 0
   pub cell : (l r : Row) → side_cell s l r ≡ in_both cs ds env l r id
   pub inside : SideInside s (length cs) (length ds)
 
--- the side of what an aggregate measures, by its code and its column
-pub record MeasuredFor (cs ds : List ℕ) (env : Env) (code id : ℕ) (s : Side) : Type 0 where
-  pub cell : (l r : Row) → side_cell s l r ≡ measure (aggregate_of code id) (in_both cs ds env l r)
+-- the aggregate of a kind, over a column
+abbrev pub aggregate_by : AggregateKind → ℕ → Aggregate
+aggregate_by Count column = count
+aggregate_by Sum column = over sum column
+aggregate_by Least column = over least column
+aggregate_by Greatest column = over greatest column
+
+-- the side of what an aggregate measures, by its kind and its column
+pub record MeasuredFor (cs ds : List ℕ) (env : Env) (kind : AggregateKind) (id : ℕ) (s : Side) : Type 0 where
+  pub cell : (l r : Row) → side_cell s l r ≡ measure (aggregate_by kind id) (in_both cs ds env l r)
   pub inside : SideInside s (length cs) (length ds)
 
 -- ---- a condition
 
+-- what is compared holds; with nothing to compare, always
+abbrev pub compared_holds : Option Compared → Row → Row → Bool
+compared_holds None l r = true
+compared_holds (Some k) l r = compares (comparison_of k.comparison) (side_cell k.left l r) (side_cell k.right l r)
+
 unfoldable pub condition_holds : Condition → Row → Row → Bool
-condition_holds c l r = flip c.negated (c.always || compares (comparison_of c.comparison) (side_cell c.left l r) (side_cell c.right l r))
+condition_holds c l r = flip c.negated (compared_holds c.compared l r)
+
+abbrev pub ComparedInside : Option Compared → ℕ → ℕ → Type 0
+ComparedInside None w v = Unit {0}
+ComparedInside (Some k) w v = SideInside k.left w v × SideInside k.right w v
 
 pub record ConditionInside (c : Condition) (w v : ℕ) : Type 0 where
-  pub left : SideInside c.left w v
-  pub right : SideInside c.right w v
+  pub compared : ComparedInside c.compared w v
 
 -- the condition says of the cells what p says of the environment
 pub record ConditionFor (cs ds : List ℕ) (env : Env) (p : Env → Bool) (c : Condition) : Type 0 where
@@ -58,12 +77,12 @@ pub record ConditionFor (cs ds : List ℕ) (env : Env) (p : Env → Bool) (c : C
   pub inside : ConditionInside c (length cs) (length ds)
 
 -- the places of two sides, where the first is one of the left row and the second one of the right row
-abbrev pub side_places : Side → Side → KeyPlaces
-side_places (Left place) (Left other) = Other
-side_places (Left place) (Right other) = Equal place other
-side_places (Left place) (Word word) = Other
-side_places (Right place) s = Other
-side_places (Word word) s = Other
+abbrev pub side_places : Side → Side → Option KeyPlaces
+side_places (Left place) (Left other) = None
+side_places (Left place) (Right other) = Some (record { left = place; right = other })
+side_places (Left place) (Word word) = None
+side_places (Right place) s = None
+side_places (Word word) s = None
 
 -- it asks whether the cell at one place of the left row and the cell at one place of the right row are equal numbers
 pub record Equals (left right : ℕ) (c : Condition) : Type 0 where
@@ -71,9 +90,9 @@ pub record Equals (left right : ℕ) (c : Condition) : Type 0 where
   pub inside : (w v : ℕ) → ConditionInside c w v → (left < w) × (right < v)
 
 -- what the places of two keys say of their condition
-abbrev pub PlacesFor : Condition → KeyPlaces → Type 0
-PlacesFor c (Equal left right) = Equals left right c
-PlacesFor c Other = Unit {0}
+abbrev pub PlacesFor : Condition → Option KeyPlaces → Type 0
+PlacesFor c (Some p) = Equals p.left p.right c
+PlacesFor c None = Unit {0}
 
 -- ---- a node
 
@@ -91,13 +110,13 @@ unfoldable pub found_cells : Found → Row → List Row → List ℕ
 found_cells f l rs = map (side_cell f.measured l) (filter (meets f l) rs)
 
 abbrev pub found_cell : Found → Row → List Row → ℕ
-found_cell f l rs = aggregate (aggregate_of f.code 0) (found_cells f l rs)
+found_cell f l rs = aggregate (aggregate_by f.aggregate 0) (found_cells f l rs)
 
 -- the columns of a node are found, cs the left columns, ds the right ones
 pub record FoundFor (node : Node) (cs ds : List ℕ) (env : Env) (f : Found) : Type 0 where
   pub keys : (l r : Row) → condition_holds f.keys l r ≡ keys_hold node.kind node (in_both cs ds env l r)
   pub test : (l r : Row) → condition_holds f.test l r ≡ holds (node_test node) (in_both cs ds env l r)
-  pub code : aggregate_of f.code node.column ≡ aggregate_in (operator_of node)
+  pub aggregate : aggregate_by f.aggregate node.column ≡ aggregate_in (operator_of node)
   pub measured : (l r : Row) → side_cell f.measured l r ≡ measure (aggregate_in (operator_of node)) (in_both cs ds env l r)
   pub inside : FoundInside f (length cs) (length ds)
 
@@ -108,14 +127,17 @@ pub record FoundSomewhere (node : Node) (cs ds : List ℕ) (f : Found) : Type 0 
 
 -- the same, with the not-mark of its test turned
 abbrev pub turned_test : Condition → Condition
-turned_test c = record { always = c.always; comparison = c.comparison; left = c.left; right = c.right; negated = flip true c.negated }
+turned_test c = record { compared = c.compared; negated = flip true c.negated }
 
 abbrev pub turned_found : Found → Found
-turned_found f = record { keys = f.keys; test = turned_test f.test; code = f.code; measured = f.measured }
+turned_found f = record { keys = f.keys; test = turned_test f.test; aggregate = f.aggregate; measured = f.measured }
 
--- whether a kind that keeps left rows keeps this one: an Anti (7) where it meets no right row, an Every (9) where it meets none under the
--- other not-mark, a Semi and a Some where it meets some
-unfoldable pub keeps_row : ℕ → Found → Row → List Row → Bool
-keeps_row kind f l rs =
-    if eqb kind 9 then flip true (any (meets (turned_found f) l) rs) else
-    flip (eqb kind 7) (any (meets f l) rs)
+abbrev pub is_anti : Kind → Bool
+is_anti Anti = true
+is_anti kind = false
+
+-- whether a kind that keeps left rows keeps this one: an Anti where it meets no right row, an Every where it meets none under the other
+-- not-mark, a Semi and a Some where it meets some
+unfoldable pub keeps_row : Kind → Found → Row → List Row → Bool
+keeps_row Every f l rs = flip true (any (meets (turned_found f) l) rs)
+keeps_row kind f l rs = flip (is_anti kind) (any (meets f l) rs)

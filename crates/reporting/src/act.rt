@@ -9,6 +9,7 @@ use crate::group::group;
 use crate::select::{project, select};
 use crate::sort::sort_by;
 use reading::columns::list_length;
+use reading::kinds::Kind;
 use reading::plan::Node;
 
 // Select, Project, Distinct, Group, Sort: of the child's m rows at `own`, at the front.
@@ -24,22 +25,19 @@ pub(crate) fn act(
     requires unary_room { UnaryRoom (operator_of node) ids.now own m (length cells.old) }
     ensures { UnaryGiven (operator_of node) ids.now env.now own m cells.old result cells.new }
 {
-    let kind = node.kind;
-    if kind == 2 {
-        let form = node.test;
-        return select(node.negated, form, cells, own, m, ids, env);
-    }
-    if kind == 13 {
-        return group(node, cells, own, m, ids, env);
-    }
     let list = node.list;
     let n = list_length(list, node.listed);
-    if kind == 14 {
-        return sort_by(cells, own, m, ids, &list[0..n], node.arg == 1);
+    match node.kind {
+        Kind::Select => {
+            let form = node.test;
+            select(node.negated, form, cells, own, m, ids, env)
+        }
+        Kind::Group => group(node, cells, own, m, ids, env),
+        Kind::Sort => sort_by(cells, own, m, ids, &list[0..n], node.arg == 1),
+        Kind::Project => project(cells, own, m, ids, &list[0..n], env),
+        _ => {
+            let given = project(cells, own, m, ids, &list[0..n], env);
+            distinct_front(cells, given, n)
+        }
     }
-    let given = project(cells, own, m, ids, &list[0..n], env);
-    if kind == 3 {
-        return given;
-    }
-    distinct_front(cells, given, n)
 }

@@ -3,6 +3,8 @@ ghost use Rattle.std.specs.Prelude.{◌&&◌, ◌≡◌};
 ghost use Rattle.algebra.specs.Cells.{is_blank, is_number, is_unequal, order, compares};
 ghost use Rattle.reading.specs.Tree.{comparison_of};
 
+use reading::comparison::Comparison;
+
 // Whether a cell is neither blank nor off scale.
 pub fn is_number(x: u64) -> bool
     ensures { result ≡ is_number x }
@@ -14,39 +16,34 @@ pub fn is_number(x: u64) -> bool
 }
 
 // Whether two numbers stand in the order that a comparison asks for.
-fn ordered(comparison: u8, a: u64, b: u64) -> bool
+fn ordered(comparison: Comparison, a: u64, b: u64) -> bool
     ensures { result ≡ order (comparison_of comparison) a b }
 {
-    if comparison == 0 {
-        return a == b;
+    match comparison {
+        Comparison::Equal => a == b,
+        Comparison::Unequal => a != b,
+        Comparison::Less => a < b,
+        Comparison::AtMost => a <= b,
+        Comparison::Greater => b < a,
+        Comparison::AtLeast | Comparison::Other(_) => b <= a,
     }
-    if comparison == 1 {
-        return a != b;
-    }
-    if comparison == 2 {
-        return a < b;
-    }
-    if comparison == 3 {
-        return a <= b;
-    }
-    if comparison == 4 {
-        return b < a;
-    }
-    b <= a
 }
 
 // Whether a comparison holds of a number and a cell that is none, on either side: ≠ does, of a blank.
-fn beside_number(comparison: u8, x: u64) -> bool
+fn beside_number(comparison: Comparison, x: u64) -> bool
     ensures { result ≡ is_blank x && is_unequal (comparison_of comparison) }
 {
     if x != 0 {
         return false;
     }
-    comparison == 1
+    match comparison {
+        Comparison::Unequal => true,
+        _ => false,
+    }
 }
 
 // Two numbers compare as they are ordered; a number and a blank are unequal; no other comparison with a blank or off-scale side holds.
-pub fn compare(comparison: u8, a: u64, b: u64) -> bool
+pub fn compare(comparison: Comparison, a: u64, b: u64) -> bool
     ensures { result ≡ compares (comparison_of comparison) a b }
 {
     let left = is_number(a);

@@ -10,6 +10,7 @@ ghost use Rattle.reporting.specs.Evaluation.{columns_at, width_at, share_at, par
 
 use reading::bound::bound_at;
 use reading::columns::{columns_at, list_length};
+use reading::kinds::Kind;
 use reading::need::{counted_rows, part_at};
 use reading::plan::{Node, node_at};
 use reading::set::{columns_of, table_from};
@@ -39,11 +40,7 @@ fn copy_ids(ids: &mut [u8], from: &[u8])
     requires { length from.now ≤ length ids.old }
     ensures { take (length from.now) ids.new ≡ from.now }
 {
-    let mut k = 0;
-    while k < from.len() {
-        ids[k] = from[k];
-        k += 1;
-    }
+    ids[..from.len()].copy_from_slice(from);
 }
 
 // Writes n ids from `first` upward to the front.
@@ -52,10 +49,8 @@ fn ids_upward(ids: &mut [u8], first: u8, n: usize)
     ensures { take n ids.new ≡ upward n first }
 {
     let start = first as usize;
-    let mut k = 0;
-    while k < n {
+    for k in 0..n {
         ids[k] = (start + k) as u8;
-        k += 1;
     }
 }
 
@@ -72,14 +67,16 @@ fn ids_listed(ids: &mut [u8], node: Node) -> usize
 
 // How a node's columns are made: 0 of the node alone, 1 they are the first child's, 2 the first child's and then the new id, 3 the
 // first child's and then the second's.
-const WAYS: [u8; 15] = [0, 0, 1, 0, 0, 3, 1, 1, 1, 1, 2, 3, 2, 0, 1];
-
 fn columns_way(node: Node) -> u8
     ensures { result ≡ columns_way (operator_of node) }
 {
-    let ways = WAYS;
-    let kind = node.kind as usize;
-    if kind < 15 { ways[kind] } else { 0 }
+    match node.kind {
+        Kind::Unit | Kind::Scan | Kind::Project | Kind::Distinct | Kind::Group | Kind::Other(_) =>
+            0,
+        Kind::Select | Kind::Semi | Kind::Anti | Kind::Some | Kind::Every | Kind::Sort => 1,
+        Kind::Fold | Kind::Pair => 2,
+        Kind::Cross | Kind::Each => 3,
+    }
 }
 
 // Writes the ids of a node whose columns are its own alone: Scan, Project, Distinct, Group; a Unit has none.
@@ -88,25 +85,21 @@ fn own_ids(set: &[u8], node: Node, ids: &mut [u8]) -> usize
     requires node_in_bounds { length (own_columns (tables_of set.now) (operator_of node)) ≤ length ids.old }
     ensures { IdsWritten (own_columns (tables_of set.now) (operator_of node)) result ids.new }
 {
-    let kind = node.kind;
-    if kind == 1 {
-        let t = node.arg as usize;
-        let n = columns_of(table_from(set, t));
-        ids_upward(ids, node.id, n);
-        return n;
+    match node.kind {
+        Kind::Scan => {
+            let t = node.arg as usize;
+            let n = columns_of(table_from(set, t));
+            ids_upward(ids, node.id, n);
+            n
+        }
+        Kind::Group => {
+            let both = [node.left, node.id];
+            copy_ids(ids, &both);
+            2
+        }
+        Kind::Project | Kind::Distinct => ids_listed(ids, node),
+        _ => 0,
     }
-    if kind == 13 {
-        let both = [node.left, node.id];
-        copy_ids(ids, &both);
-        return 2;
-    }
-    if kind < 3 {
-        return 0;
-    }
-    if kind < 5 {
-        return ids_listed(ids, node);
-    }
-    0
 }
 
 // ---- A tree's columns

@@ -12,14 +12,7 @@ fn same_row(a: &[u64], b: &[u64]) -> bool
     requires { length a.now ≡ length b.now }
     ensures { result ≡ same a.now b.now }
 {
-    let mut i = 0;
-    while i < a.len() {
-        if a[i] != b[i] {
-            return false;
-        }
-        i += 1;
-    }
-    true
+    a == b
 }
 
 // Whether one of the first k rows is the row at src.
@@ -27,14 +20,11 @@ fn seen(cells: &[u64], k: usize, src: usize, w: usize) -> bool
     requires { (k * w ≤ length cells.now) × (src + w ≤ length cells.now) }
     ensures { result ≡ any (λ q. same q (take w (drop src cells.now))) (chunk k w cells.now) }
 {
-    let mut i = 0;
-    let mut at = 0;
-    while i < k {
+    for i in 0..k {
+        let at = i * w;
         if same_row(&cells[at..at + w], &cells[src..src + w]) {
             return true;
         }
-        i += 1;
-        at += w;
     }
     false
 }
@@ -81,54 +71,18 @@ fn distinct_all(cells: &mut [u64], m: usize, w: usize) -> usize
     ensures gives { Gives (firsts (chunk m w cells.old)) w m result cells.new }
     ensures cells_unchanged { drop (m * w) cells.new ≡ drop (m * w) cells.old }
 {
-    let mut i = 0;
     let mut out = 0;
-    let mut src = 0;
-    let mut dst = 0;
-    while i < m {
+    for i in 0..m {
+        let src = i * w;
         if !seen(cells, out, src, w) {
-            copy_row(cells, src, dst, w);
+            copy_row(cells, src, out * w, w);
             out += 1;
-            dst += w;
         }
-        i += 1;
-        src += w;
     }
     out
 }
 
-// The same through an index of the rows that are kept, of which there is none before: each row is compared with those of its bucket.
-fn distinct_linked(
-    cells: &mut [u64],
-    m: usize,
-    w: usize,
-    heads: &mut [u16],
-    next: &mut [u16],
-) -> usize
-    requires m_bound { (m ≤ 4096) × (m * w ≤ length cells.old) }
-    requires heads_value { (heads.old ≡ replicate 4096 0) × (m ≤ length next.old) }
-    ensures gives { Gives (firsts (chunk m w cells.old)) w m result cells.new }
-    ensures cells_unchanged { drop (m * w) cells.new ≡ drop (m * w) cells.old }
-{
-    let mut i = 0;
-    let mut out = 0;
-    let mut src = 0;
-    let mut dst = 0;
-    while i < m {
-        let b = hash_row(&cells[src..src + w]);
-        if !seen_linked(cells, out, src, w, b, heads, next) {
-            copy_row(cells, src, dst, w);
-            link(heads, next, b, out);
-            out += 1;
-            dst += w;
-        }
-        i += 1;
-        src += w;
-    }
-    out
-}
-
-// The same, with the arrays of the index.
+// The same through an index of the rows that are kept: each row is compared with those of its bucket.
 fn distinct_indexed(cells: &mut [u64], m: usize, w: usize) -> usize
     requires { (m ≤ 4096) × (m * w ≤ length cells.old) }
     ensures gives { Gives (firsts (chunk m w cells.old)) w m result cells.new }
@@ -136,7 +90,17 @@ fn distinct_indexed(cells: &mut [u64], m: usize, w: usize) -> usize
 {
     let mut heads = [0u16; 4096];
     let mut next = [0u16; 4096];
-    distinct_linked(cells, m, w, &mut heads, &mut next)
+    let mut out = 0;
+    for i in 0..m {
+        let src = i * w;
+        let b = hash_row(&cells[src..src + w]);
+        if !seen_linked(cells, out, src, w, b, &heads, &next) {
+            copy_row(cells, src, out * w, w);
+            link(&mut heads, &mut next, b, out);
+            out += 1;
+        }
+    }
+    out
 }
 
 // Keeps the first occurrence of each of m rows at the front, in place. Few rows are compared with each other sooner than an index is made.

@@ -3,20 +3,16 @@ ghost use Rattle.std.specs.Prelude.{◌≡◌, length};
 ghost use Rattle.algebra.specs.Plans.{bind};
 ghost use Rattle.reporting.specs.Rows.{env_of};
 
-use crate::rows::copy_in;
-
 // The value of a column: the row's, where its id is one of the row's, else the one around it.
 pub(crate) fn column(ids: &[u8], row: &[u64], env: &[u64], id: u8) -> u64
     requires ids_len { length ids.now ≡ length row.now }
     requires env_len { length env.now ≡ 256 }
     ensures { result ≡ bind ids.now row.now (env_of env.now) id }
 {
-    let mut i = 0;
-    while i < row.len() {
-        if ids[i] == id {
+    for (i, &own) in ids.iter().enumerate() {
+        if own == id {
             return row[i];
         }
-        i += 1;
     }
     let at = id as usize;
     env[at]
@@ -28,11 +24,8 @@ pub(crate) fn bind_row(env: &mut [u64], ids: &[u8], row: &[u64])
     requires env_len { length env.old ≡ 256 }
     ensures { env_of env.new ≡ bind ids.now row.now (env_of env.old) }
 {
-    let mut left = row.len();
-    while 0 < left {
-        left -= 1;
-        let at = ids[left] as usize;
-        env[at] = row[left];
+    for i in (0..row.len()).rev() {
+        env[ids[i] as usize] = row[i];
     }
 }
 
@@ -41,6 +34,6 @@ pub(crate) fn inner_env(copy: &mut [u64], env: &[u64], ids: &[u8], row: &[u64])
     requires { (length ids.now ≡ length row.now) × (length env.now ≡ 256) × (length copy.old ≡ 256) }
     ensures { env_of copy.new ≡ bind ids.now row.now (env_of env.now) }
 {
-    copy_in(copy, env, 256);
+    copy.copy_from_slice(env);
     bind_row(copy, ids, row);
 }

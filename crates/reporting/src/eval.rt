@@ -8,9 +8,11 @@ ghost use Rattle.reporting.specs.Evaluation.{columns_at, bound_at, width_at, Sou
 ghost use Rattle.reporting.specs.Evaluation.{StepRoom, LoopRoom, PlainGiven, NestedStep, NestedGiven};
 
 use crate::act::act;
+use crate::asked::{Asked, Lookup};
 use crate::columns::{columns_into, share_at, tree_part};
 use crate::emit::emit_row;
 use crate::env::inner_env;
+use crate::held::HeldRows;
 use crate::leaf::leaf;
 use crate::matching::{emitted_width, rows_of_each};
 use crate::nesting::runs_once;
@@ -67,7 +69,12 @@ fn binary_at(
     let w = columns_into(set, plan, left, &mut ids);
     let mut jds = [0u8; 32];
     let v = columns_into(set, plan, right, &mut jds);
-    rows_of_each(node, cells, own, m, &ids[0..w], behind, k, &jds[0..v], env)
+    let rows = HeldRows {
+        at: behind,
+        count: k,
+        columns: &jds[0..v],
+    };
+    rows_of_each(node, cells, own, m, &ids[0..w], rows, env)
 }
 
 // ---- the cycle
@@ -89,7 +96,7 @@ fn row_step(
     env: &[u64],
 ) -> usize
     requires found_for { FoundFor node ids.now jds.now (env_of env.now) found }
-    requires node_value { (arity (operator_of node) ≡ 2) × (jds.now ≡ columns_at set.now plan.now inner) × (behind ≤ length cells.old) }
+    requires node_value { (arity (operator_of node) ≡ 2) × (jds.now ≡ columns_at set.now plan.now inner) × (behind ≤ length cells.old) × (length ids.now ≤ 32) }
     requires step_room { StepRoom (operator_of node) ids.now jds.now (bound_at set.now plan.now inner) src dst behind }
     requires ready_at { ReadyAt set.now plan.now inner (length cells.old - behind) (length env.now) }
     ensures { NestedStep set.now plan.now inner (operator_of node) ids.now env.now src dst behind
@@ -99,7 +106,19 @@ fn row_step(
     let mut inside = [0u64; 256];
     inner_env(&mut inside, env, ids, &cells[src..src + w]);
     let k = eval(set, plan, inner, &mut cells[behind..], &inside);
-    emit_row(node, found, cells, src, ids, dst, behind, k, jds)
+    let right = HeldRows {
+        at: behind,
+        count: k,
+        columns: jds,
+    };
+    let asked = Asked {
+        node,
+        found,
+        ids,
+        right,
+    };
+    let mut none = [0u64; 0];
+    emit_row(&asked, Lookup::All, cells, src, dst, &mut none)
 }
 
 // Gives the rows of each of m left rows at `own`, at the front.
@@ -127,17 +146,15 @@ fn nested_loop(
     let w = ids.len();
     let wo = emitted_width(node, ids, jds);
     let found = find(node, ids, jds, env);
-    let mut i = 0;
     let mut out = 0;
     let mut src = own;
     let mut dst = 0;
-    while i < m {
+    for _ in 0..m {
         let r = row_step(
             set, plan, inner, node, found, cells, src, ids, dst, behind, jds, env,
         );
         out += r;
         dst += r * wo;
-        i += 1;
         src += w;
     }
     out

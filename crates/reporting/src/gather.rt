@@ -1,19 +1,30 @@
 // The four aggregates.
 ghost use Rattle.std.specs.Prelude.{◌≡◌, cond, ◌||◌, [], ℕ, ◌+◌, ◌*◌, ◌-◌, ◌≤◌, ◌<◌, max, ltb, length, drop};
 ghost use Rattle.algebra.specs.Cells.{blank, sum_of};
-ghost use Rattle.reading.specs.Tree.{aggregate_of, operator_of};
-ghost use Rattle.reporting.specs.Index.{Linked};
+ghost use Rattle.reading.specs.Tree.{operator_of};
+ghost use Rattle.reporting.specs.Held.{held_in, RowsInside, Indexed};
 ghost use Rattle.reporting.specs.Known.{Shared, Known};
-ghost use Rattle.reporting.specs.Rows.{rows_from, aggregate_in};
-ghost use Rattle.reporting.specs.Sides.{Equals, FoundInside, found_cell};
+ghost use Rattle.reporting.specs.Rows.{aggregate_in};
+ghost use Rattle.reporting.specs.Sides.{aggregate_by, found_cell};
 ghost use Rattle.reporting.specs.Tallies.{Tallies, Bounded, lesser, added, tallied};
 
 use crate::cells::is_number;
-use crate::index::{bucket, first_linked, wide};
+use crate::held::HeldRows;
+use crate::index::{KeyIndex, bucket, first_linked};
 use crate::side::{Found, side_cell};
 use crate::test::{linked_meets, row_meets};
+use reading::kinds::Kind;
 use reading::plan::Node;
 use reading::set::number_word;
+
+// Which of the four it is.
+#[derive(Clone, Copy)]
+pub enum AggregateKind {
+    Count,
+    Sum,
+    Least,
+    Greatest,
+}
 
 // What the measured cells of the rows that passed so far come to: how many rows; of those with no blank how many, their sum, the least
 // and the greatest; and whether one is off scale. The sum of 4,096 cells can take 76 bits, so those of the cells' lower and of their upper
@@ -35,32 +46,7 @@ pub struct Tally {
 fn lesser_cell(numbers: usize, least: u64, cell: u64) -> u64
     ensures { result ≡ lesser numbers least cell }
 {
-    if numbers == 0 {
-        return cell;
-    }
-    if cell < least {
-        return cell;
-    }
-    least
-}
-
-// The greatest of one cell more; a blank lies below every number.
-fn greater_cell(cell: u64, greatest: u64) -> u64
-    ensures { result ≡ max cell greatest }
-{
-    if cell < greatest {
-        return greatest;
-    }
-    cell
-}
-
-fn either(a: bool, b: bool) -> bool
-    ensures { result ≡ (a || b) }
-{
-    if a {
-        return true;
-    }
-    b
+    if numbers == 0 { cell } else { cell.min(least) }
 }
 
 // The cell of a sum. So many rows passed, so many of their cells are not blank, and the halves of these add up to low and high: blank where
@@ -112,12 +98,7 @@ impl Tally {
         if cell == 0 {
             return Tally {
                 rows: self.rows + 1,
-                numbers: self.numbers,
-                low: self.low,
-                high: self.high,
-                least: self.least,
-                greatest: self.greatest,
-                off: self.off,
+                ..self
             };
         }
         Tally {
@@ -126,140 +107,117 @@ impl Tally {
             low: self.low + cell % 4294967296,
             high: self.high + cell / 4294967296,
             least: lesser_cell(self.numbers, self.least, cell),
-            greatest: greater_cell(cell, self.greatest),
-            off: either(cell == 18446744073709551615, self.off),
+            greatest: cell.max(self.greatest),
+            off: cell == 18446744073709551615 || self.off,
         }
     }
 
-    // The aggregate, by its code: 0 count, 1 sum, 2 least, 3 greatest.
-    fn result(self, code: u8) -> u64
+    // The aggregate of the rows that passed.
+    fn result(self, aggregate: AggregateKind) -> u64
         requires { (self.rows ≤ 4096) × Bounded self }
-        ensures { (column : ℕ) → result ≡ tallied (aggregate_of code column) self }
+        ensures { (column : ℕ) → result ≡ tallied (aggregate_by aggregate column) self }
     {
-        if code == 0 {
+        if let AggregateKind::Count = aggregate {
             return 9223372036854775808 + (self.rows as u64);
         }
         if self.off {
             return 18446744073709551615;
         }
-        if code == 1 {
-            return sum_cell(self.rows, self.numbers, self.low, self.high);
+        match aggregate {
+            AggregateKind::Sum => sum_cell(self.rows, self.numbers, self.low, self.high),
+            AggregateKind::Least => self.least,
+            _ => self.greatest,
         }
-        if code == 2 {
-            return self.least;
-        }
-        self.greatest
     }
 }
 
 // ---- The rows
 
-// The code of a node's aggregate; a kind without one counts.
-pub(crate) fn aggregate_code(node: Node) -> u8
-    ensures { aggregate_of result node.column ≡ aggregate_in (operator_of node) }
+// The aggregate of a node; a kind without one counts.
+pub(crate) fn aggregate_kind(node: Node) -> AggregateKind
+    ensures { aggregate_by result node.column ≡ aggregate_in (operator_of node) }
 {
-    let kind = node.kind;
-    if kind < 10 {
-        return 0;
+    match node.kind {
+        Kind::Fold | Kind::Pair | Kind::Group => match node.arg {
+            0 => AggregateKind::Count,
+            1 => AggregateKind::Sum,
+            2 => AggregateKind::Least,
+            _ => AggregateKind::Greatest,
+        },
+        _ => AggregateKind::Count,
     }
-    if kind == 11 {
-        return 0;
-    }
-    if 13 < kind {
-        return 0;
-    }
-    node.arg
 }
 
-// The aggregate over those of the k right rows of v cells at `behind` that the left row at src meets.
-pub(crate) fn gather(
-    found: Found,
-    cells: &[u64],
-    src: usize,
-    behind: usize,
-    k: usize,
-    v: usize,
-) -> u64
-    requires { FoundInside found (length cells.now - src) v × (behind + k * v ≤ length cells.now) × (k ≤ 4096) }
-    ensures { result ≡ found_cell found (drop src cells.now) (rows_from behind k v cells.now) }
+// The aggregate over those of the right rows that the left row at src meets.
+pub(crate) fn gather(found: &Found, cells: &[u64], src: usize, right: HeldRows) -> u64
+    requires { RowsInside found.now right src cells.now }
+    ensures { result ≡ found_cell found.now (drop src cells.now) (held_in right.entry cells.now) }
 {
-    let measured = found.measured;
+    let v = right.columns.len();
     let mut tally = Tally::none();
-    let mut i = 0;
-    let mut at = behind;
-    while i < k {
+    let mut at = right.at;
+    for _ in 0..right.count {
         if row_meets(found, cells, src, at) {
-            tally = tally.add(side_cell(measured, cells, src, at));
+            tally = tally.add(side_cell(found.measured, cells, src, at));
         }
-        i += 1;
         at += v;
     }
-    tally.result(found.code)
+    tally.result(found.aggregate)
 }
 
 // The same through an index of the right rows: only those of the key's bucket are asked. A blank or off-scale key meets none.
 pub(crate) fn gather_linked(
-    found: Found,
+    found: &Found,
     cells: &[u64],
     src: usize,
-    behind: usize,
-    k: usize,
-    v: usize,
-    left: usize,
-    right: usize,
-    heads: &[u16],
-    next: &[u16],
+    right: HeldRows,
+    index: KeyIndex,
 ) -> u64
-    requires found_inside { FoundInside found (length cells.now - src) v × (behind + k * v ≤ length cells.now) × (k ≤ 4096) }
-    requires equals { Equals left right found.keys × Linked right k (rows_from behind k v cells.now) heads.now next.now }
-    ensures { result ≡ found_cell found (drop src cells.now) (rows_from behind k v cells.now) }
+    requires inside { RowsInside found.now right src cells.now }
+    requires indexed { Indexed index found.now right cells.now }
+    ensures { result ≡ found_cell found.now (drop src cells.now) (held_in right.entry cells.now) }
 {
-    let measured = found.measured;
+    let v = right.columns.len();
     let mut tally = Tally::none();
-    let key = cells[src + left];
+    let key = cells[src + index.keys.left];
     if !is_number(key) {
-        return tally.result(found.code);
+        return tally.result(found.aggregate);
     }
-    let mut h = wide(heads[bucket(key)]);
+    let mut h = index.heads[bucket(key)] as usize;
     while 0 < h {
         let i = h - 1;
-        let at = behind + i * v;
-        if linked_meets(found, cells, src, at, left, right, key) {
-            tally = tally.add(side_cell(measured, cells, src, at));
+        let at = right.at + i * v;
+        if linked_meets(found, cells, src, at, index.keys, key) {
+            tally = tally.add(side_cell(found.measured, cells, src, at));
         }
-        h = wide(next[i]);
+        h = index.next[i] as usize;
     }
-    tally.result(found.code)
+    tally.result(found.aggregate)
 }
 
 // The same where what is asked and measured is the same for every left row: it is worked out once for a key, and kept under the number of
-// the first right row with that key, or under k where no right row has it. 0 is kept for none.
+// the first right row with that key, or under their count where no right row has it. 0 is kept for none.
 pub(crate) fn gather_known(
-    found: Found,
+    found: &Found,
     cells: &[u64],
     src: usize,
-    behind: usize,
-    k: usize,
-    v: usize,
-    left: usize,
-    right: usize,
-    heads: &[u16],
-    next: &[u16],
+    right: HeldRows,
+    index: KeyIndex,
     known: &mut [u64],
 ) -> u64
-    requires found_inside { FoundInside found (length cells.now - src) v × (behind + k * v ≤ length cells.now) × (k ≤ 4096) }
-    requires equals { Equals left right found.keys × Linked right k (rows_from behind k v cells.now) heads.now next.now }
-    requires shared { Shared found × Known found left right (rows_from behind k v cells.now) known.old }
-    ensures value { result ≡ found_cell found (drop src cells.now) (rows_from behind k v cells.now) }
-    ensures known { Known found left right (rows_from behind k v cells.now) known.new }
+    requires inside { RowsInside found.now right src cells.now }
+    requires indexed { Indexed index found.now right cells.now }
+    requires shared { Shared found.now × Known found.now index.keys.left index.keys.right (held_in right cells.now) known.old }
+    ensures value { result ≡ found_cell found.now (drop src cells.now) (held_in right.entry cells.now) }
+    ensures known { Known found.now index.entry.keys.left index.entry.keys.right (held_in right.entry cells.now) known.new }
 {
-    let key = cells[src + left];
-    let first = first_linked(cells, behind, k, v, right, key, heads, next);
+    let key = cells[src + index.keys.left];
+    let first = first_linked(cells, right, index, key);
     let kept = known[first];
     if 0 < kept {
         return kept;
     }
-    let cell = gather_linked(found, cells, src, behind, k, v, left, right, heads, next);
+    let cell = gather_linked(found, cells, src, right, index);
     known[first] = cell;
     cell
 }

@@ -1,16 +1,18 @@
 // Group.
-ghost use Rattle.std.specs.Prelude.{◌≡◌, true, [], ◌∷◌, ◌+◌, ◌*◌, ◌≤◌, ◌<◌, length, take, get_or};
+ghost use Rattle.std.specs.Prelude.{◌≡◌, [], ◌∷◌, ◌+◌, ◌*◌, ◌≤◌, ◌<◌, length, take, get_or};
 ghost use Rattle.algebra.specs.Lists.{same, any};
 ghost use Rattle.reading.specs.Tree.{operator_of};
-ghost use Rattle.reporting.specs.Index.{Linked};
+ghost use Rattle.reading.specs.declared.kinds.Kind.TheVariants.{Group};
+ghost use Rattle.reporting.specs.Held.{held_in, HeldWithin, Indexed};
 ghost use Rattle.reporting.specs.Rows.{chunk, rows_from, env_of, acted, Gives};
 ghost use Rattle.reporting.specs.Sides.{side_cell, SideInside, Equals, FoundInside};
 ghost use Rattle.reporting.specs.Grouping.{grouped_by, KeyWritten};
 
 use crate::gather::{gather, gather_linked};
-use crate::index::{FEW, build, first_linked};
+use crate::held::HeldRows;
+use crate::index::{FEW, KeyIndex, build, first_linked};
 use crate::places::place_of;
-use crate::side::{Condition, Found, KeyPlaces, Side, find, key_places, side_cell, side_of};
+use crate::side::{Found, KeyPlaces, Side, find, key_places, side_cell, side_of};
 use reading::plan::Node;
 
 // Whether one of the first k rows, of two cells each, has this key as its first cell.
@@ -18,45 +20,43 @@ fn key_given(cells: &[u64], k: usize, key: u64) -> bool
     requires { k * 2 ≤ length cells.now }
     ensures { result ≡ any (λ q. same (take 1 q) (key ∷ [])) (chunk k 2 cells.now) }
 {
-    let mut i = 0;
     let mut at = 0;
-    while i < k {
+    for _ in 0..k {
         if cells[at] == key {
             return true;
         }
-        i += 1;
         at += 2;
     }
     false
 }
 
-// Writes a key and its aggregate over m rows at `own` as a row at dst: the key, standing there, is the left row.
-fn give_key(found: Found, key: u64, cells: &mut [u64], dst: usize, own: usize, m: usize, w: usize)
-    requires { FoundInside found 1 w × (m ≤ 4096) × (dst + 2 ≤ own) × (own + m * w ≤ length cells.old) }
-    ensures { KeyWritten found key dst (rows_from own m w cells.old) cells.old cells.new }
+// Writes a key and its aggregate over these rows as a row at dst: the key, standing there, is the left row.
+fn give_key(found: &Found, key: u64, cells: &mut [u64], dst: usize, rows: HeldRows)
+    requires { FoundInside found.now 1 (length rows.columns.now) × (dst + 2 ≤ rows.at) × HeldWithin rows (length cells.old) }
+    ensures { KeyWritten found.now key dst (held_in rows.entry cells.old) cells.old cells.new }
 {
     cells[dst] = key;
-    let value = gather(found, cells, dst, own, m, w);
+    let value = gather(found, cells, dst, rows);
     cells[dst + 1] = value;
 }
 
-// Each first occurrence of a key among m rows at `own`, with its aggregate over these rows: rows of two cells, at the front.
-fn group_all(found: Found, cells: &mut [u64], own: usize, m: usize, w: usize, side: Side) -> usize
-    requires { FoundInside found 1 w × SideInside side 0 w × (m ≤ 4096) × (m * 2 ≤ own) × (own + m * w ≤ length cells.old) }
-    ensures { Gives (grouped_by found (side_cell side []) (rows_from own m w cells.old)) 2 m result cells.new }
+// Each first occurrence of a key among these rows, with its aggregate over them: rows of two cells, at the front.
+fn group_all(found: &Found, cells: &mut [u64], rows: HeldRows, side: Side) -> usize
+    requires inside { FoundInside found.now 1 (length rows.columns.now) × SideInside side 0 (length rows.columns.now) }
+    requires room { (rows.count * 2 ≤ rows.at) × HeldWithin rows (length cells.old) }
+    ensures { Gives (grouped_by found.now (side_cell side []) (held_in rows.entry cells.old)) 2 rows.entry.count result cells.new }
 {
-    let mut i = 0;
+    let w = rows.columns.len();
     let mut out = 0;
-    let mut src = own;
+    let mut src = rows.at;
     let mut dst = 0;
-    while i < m {
+    for _ in 0..rows.count {
         let key = side_cell(side, cells, 0, src);
         if !key_given(cells, out, key) {
-            give_key(found, key, cells, dst, own, m, w);
+            give_key(found, key, cells, dst, rows);
             out += 1;
             dst += 2;
         }
-        i += 1;
         src += w;
     }
     out
@@ -64,90 +64,67 @@ fn group_all(found: Found, cells: &mut [u64], own: usize, m: usize, w: usize, si
 
 // As give_key, through an index of the rows by their key.
 fn give_linked(
-    found: Found,
+    found: &Found,
     key: u64,
     cells: &mut [u64],
     dst: usize,
-    own: usize,
-    m: usize,
-    w: usize,
-    right: usize,
-    heads: &[u16],
-    next: &[u16],
+    rows: HeldRows,
+    index: KeyIndex,
 )
-    requires found_inside { FoundInside found 1 w × (m ≤ 4096) × (dst + 2 ≤ own) × (own + m * w ≤ length cells.old) }
-    requires equals { Equals 0 right found.keys × Linked right m (rows_from own m w cells.old) heads.now next.now }
-    ensures { KeyWritten found key dst (rows_from own m w cells.old) cells.old cells.new }
+    requires inside { FoundInside found.now 1 (length rows.columns.now) × (dst + 2 ≤ rows.at) × HeldWithin rows (length cells.old) }
+    requires indexed { Indexed index found.now rows cells.old }
+    ensures { KeyWritten found.now key dst (held_in rows.entry cells.old) cells.old cells.new }
 {
     cells[dst] = key;
-    let value = gather_linked(found, cells, dst, own, m, w, 0, right, heads, next);
+    let value = gather_linked(found, cells, dst, rows, index);
     cells[dst + 1] = value;
 }
 
 // As group_all, through an index of the rows by their key: a row is the first with its key where the index finds no other before it.
-fn group_linked(
-    found: Found,
-    cells: &mut [u64],
-    own: usize,
-    m: usize,
-    w: usize,
-    right: usize,
-    heads: &[u16],
-    next: &[u16],
-) -> usize
-    requires found_inside { FoundInside found 1 w × (right < w) × (m ≤ 4096) × (m * 2 ≤ own) × (own + m * w ≤ length cells.old) }
-    requires equals { Equals 0 right found.keys × Linked right m (rows_from own m w cells.old) heads.now next.now }
-    ensures { Gives (grouped_by found (λ q. get_or q right 0) (rows_from own m w cells.old)) 2 m result cells.new }
+fn group_linked(found: &Found, cells: &mut [u64], rows: HeldRows, index: KeyIndex) -> usize
+    requires inside { FoundInside found.now 1 (length rows.columns.now) × (index.keys.right < length rows.columns.now) }
+    requires room { (rows.count * 2 ≤ rows.at) × HeldWithin rows (length cells.old) }
+    requires indexed { Indexed index found.now rows cells.old }
+    ensures { Gives (grouped_by found.now (λ q. get_or q index.entry.keys.right 0) (held_in rows.entry cells.old)) 2 rows.entry.count result cells.new }
 {
-    let mut i = 0;
+    let w = rows.columns.len();
     let mut out = 0;
-    let mut src = own;
+    let mut src = rows.at;
     let mut dst = 0;
-    while i < m {
-        let key = cells[src + right];
-        if first_linked(cells, own, m, w, right, key, heads, next) == i {
-            give_linked(found, key, cells, dst, own, m, w, right, heads, next);
+    for i in 0..rows.count {
+        let key = cells[src + index.keys.right];
+        if first_linked(cells, rows, index, key) == i {
+            give_linked(found, key, cells, dst, rows, index);
             out += 1;
             dst += 2;
         }
-        i += 1;
         src += w;
     }
     out
 }
 
 // The same, with the index made first.
-fn group_indexed(
-    found: Found,
-    cells: &mut [u64],
-    own: usize,
-    m: usize,
-    w: usize,
-    right: usize,
-) -> usize
-    requires found_inside { FoundInside found 1 w × (right < w) × (m ≤ 4096) × (m * 2 ≤ own) × (own + m * w ≤ length cells.old) }
-    requires equals { Equals 0 right found.keys }
-    ensures { Gives (grouped_by found (λ q. get_or q right 0) (rows_from own m w cells.old)) 2 m result cells.new }
+fn group_indexed(found: &Found, cells: &mut [u64], rows: HeldRows, keys: KeyPlaces) -> usize
+    requires inside { FoundInside found.now 1 (length rows.columns.now) × Equals keys.left keys.right found.now.keys }
+    requires room { (rows.count * 2 ≤ rows.at) × HeldWithin rows (length cells.old) }
+    ensures { Gives (grouped_by found.now (λ q. get_or q keys.right 0) (held_in rows.entry cells.old)) 2 rows.entry.count result cells.new }
 {
     let mut heads = [0u16; 4096];
     let mut next = [0u16; 4096];
-    build(&cells[own..], w, right, m, &mut heads, &mut next);
-    group_linked(found, cells, own, m, w, right, &heads, &next)
-}
-
-// Whether the keys compare the one cell of the left row with the cell at this place of the right row by =.
-fn key_at(keys: Condition, place: usize) -> bool
-    ensures { result ≡ true → Equals 0 place keys }
-{
-    match key_places(keys) {
-        KeyPlaces::Equal { left, right } => {
-            if left != 0 {
-                return false;
-            }
-            right == place
-        }
-        KeyPlaces::Other => false,
-    }
+    build(
+        &cells[rows.at..],
+        rows.columns.len(),
+        keys.right,
+        rows.count,
+        &mut heads,
+        &mut next,
+    );
+    let index = KeyIndex {
+        keys,
+        heads: &heads,
+        next: &next,
+    };
+    group_linked(found, cells, rows, index)
 }
 
 // Each first occurrence of the right key among m rows at `own`, with its aggregate over these rows: rows of two cells, at the front.
@@ -159,22 +136,26 @@ pub(crate) fn group(
     ids: &[u8],
     env: &[u64],
 ) -> usize
-    requires kind_value { (node.kind ≡ 13) × (length env.now ≡ 256) × (m ≤ 4096) }
+    requires kind_value { (node.kind ≡ Group) × (length env.now ≡ 256) × (m ≤ 4096) × (length ids.now ≤ 32) }
     requires m_bound { (m * 2 ≤ own) × (own + m * length ids.now ≤ length cells.old) }
     ensures { Gives (acted (operator_of node) ids.now (env_of env.now)
         (rows_from own m (length ids.now) cells.old)) 2 m result cells.new }
 {
-    let w = ids.len();
+    let rows = HeldRows {
+        at: own,
+        count: m,
+        columns: ids,
+    };
     let left = [node.left];
     let found = find(node, &left, ids, env);
-    let keys = found.keys;
-    let place = place_of(ids, node.right);
     if FEW <= m {
-        if key_at(keys, place) {
-            return group_indexed(found, cells, own, m, w, place);
+        if let Some(keys) = key_places(found.keys) {
+            if keys.right == place_of(ids, node.right) {
+                return group_indexed(&found, cells, rows, keys);
+            }
         }
     }
     let none = [0u8; 0];
     let side = side_of(&none, ids, env, node.right);
-    group_all(found, cells, own, m, w, side)
+    group_all(&found, cells, rows, side)
 }

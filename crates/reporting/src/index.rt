@@ -2,10 +2,22 @@
 ghost use Rattle.std.specs.Prelude.{◌≡◌, ◌+◌, ◌*◌, ◌%◌, ◌≤◌, ◌<◌, eqb, length, get_or, set, replicate};
 ghost use Rattle.algebra.specs.Lists.{upward};
 ghost use Rattle.reporting.specs.Index.{halves, bucket_of, slot_of, row_slot, Index, Linked, before};
-ghost use Rattle.reporting.specs.Rows.{chunk, rows_from};
+ghost use Rattle.reporting.specs.Held.{held_in};
+ghost use Rattle.reporting.specs.Rows.{chunk};
+
+use crate::held::HeldRows;
+use crate::side::KeyPlaces;
 
 // Rows are indexed from so many on: with fewer, making the index costs more than it saves.
 pub(crate) const FEW: usize = 32;
+
+// An index of right rows by their key, with the places of the keys.
+#[derive(Clone, Copy)]
+pub struct KeyIndex<'a> {
+    pub keys: KeyPlaces,
+    pub heads: &'a [u16],
+    pub next: &'a [u16],
+}
 
 // The bucket of a key.
 pub(crate) fn bucket(key: u64) -> usize
@@ -27,10 +39,8 @@ pub(crate) fn hash_row(row: &[u64]) -> usize
     ensures { (result < 4096) × (result ≡ row_slot row.now) }
 {
     let mut h: u32 = 0;
-    let mut i = 0;
-    while i < row.len() {
-        h = mix(h, row[i]);
-        i += 1;
+    for cell in row {
+        h = mix(h, *cell);
     }
     bucket(h as u64)
 }
@@ -66,36 +76,26 @@ pub(crate) fn build(
     requires heads_value { (heads.old ≡ replicate 4096 0) × (k ≤ length next.old) }
     ensures { Index (slot_of place) (chunk k w rows.now) (upward k 0) heads.new next.new }
 {
-    let mut i = k;
-    while 0 < i {
-        i -= 1;
+    for i in (0..k).rev() {
         let b = bucket(rows[i * w + place]);
         link(heads, next, b, i);
     }
 }
 
-// The number of the first of m indexed rows at `own` whose cell at a place is this one; m where there is none.
-pub(crate) fn first_linked(
-    cells: &[u64],
-    own: usize,
-    m: usize,
-    w: usize,
-    place: usize,
-    key: u64,
-    heads: &[u16],
-    next: &[u16],
-) -> usize
-    requires place_lt_w { (place < w) × (own + m * w ≤ length cells.now) }
-    requires linked { Linked place m (rows_from own m w cells.now) heads.now next.now }
-    ensures { result ≡ before (λ q. eqb (get_or q place 0) key) (rows_from own m w cells.now) }
+// The number of the first indexed row with this cell at the right key's place; the count of all where there is none.
+pub(crate) fn first_linked(cells: &[u64], rows: HeldRows, index: KeyIndex, key: u64) -> usize
+    requires inside { (index.keys.right < length rows.columns.now) × (rows.at + rows.count * length rows.columns.now ≤ length cells.now) }
+    requires linked { Linked index.keys.right rows.count (held_in rows cells.now) index.heads.now index.next.now }
+    ensures { result ≡ before (λ q. eqb (get_or q index.entry.keys.right 0) key) (held_in rows.entry cells.now) }
 {
-    let mut h = wide(heads[bucket(key)]);
+    let w = rows.columns.len();
+    let mut h = index.heads[bucket(key)] as usize;
     while 0 < h {
         let i = h - 1;
-        if cells[own + i * w + place] == key {
+        if cells[rows.at + i * w + index.keys.right] == key {
             return i;
         }
-        h = wide(next[i]);
+        h = index.next[i] as usize;
     }
-    m
+    rows.count
 }

@@ -3,6 +3,7 @@
 
 mod act;
 pub mod answer;
+mod asked;
 pub mod cells;
 mod columns;
 mod distinct;
@@ -11,6 +12,7 @@ mod env;
 mod eval;
 mod gather;
 mod group;
+mod held;
 mod index;
 mod insertion;
 mod leaf;

@@ -5,17 +5,17 @@ ghost use Rattle.reading.specs.Nodes.{operator_nested};
 ghost use Rattle.reporting.specs.Evaluation.{RunsOnce};
 
 use reading::free::avoids_at;
+use reading::kinds::Kind;
 use reading::plan::Node;
 
 // Whether a node's second child is an inner plan, run for each left row.
 fn is_nested(node: Node) -> bool
     ensures { result ≡ operator_nested (operator_of node) }
 {
-    let kind = node.kind;
-    if kind < 8 {
-        return false;
+    match node.kind {
+        Kind::Some | Kind::Every | Kind::Fold | Kind::Each => true,
+        _ => false,
     }
-    kind < 12
 }
 
 // Whether an inner plan names a column of the left rows is found out from so many of them on: that takes as long as running it once or twice.

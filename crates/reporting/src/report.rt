@@ -10,21 +10,11 @@ use crate::answer::Report;
 use crate::eval::eval;
 use crate::output::{clear, write_codes};
 use reading::columns::columns_at;
-use reading::input::{Checked, check_input};
-
-// A refusal: its number, and zero counts.
-pub(crate) fn refused(number: u8) -> Report
-    ensures { (result.refusal ≡ number) × (result.rows ≡ 0) × (result.columns ≡ 0) }
-{
-    Report {
-        refusal: number,
-        rows: 0,
-        columns: 0,
-    }
-}
+use reading::input::check_input;
+use reading::refusal::Refusal;
 
 // The report of an input that 1 to 14 do not turn back, in scratch of the need at least. Scratch is left to be cleared.
-fn run(set: &[u8], plan: &[u8], out: &mut [i64], scratch: &mut [u64]) -> Report
+fn run(set: &[u8], plan: &[u8], out: &mut [i64], scratch: &mut [u64]) -> Result<Report, Refusal>
     requires plan_value { input_refusal set.now plan.now ≡ 0 }
     requires plan_in_bounds { need (tables_of set.now) (plan_of plan.now) ≤ length scratch.old }
     ensures { Reported set.now plan.now out.old out.new scratch.old
@@ -35,14 +25,10 @@ fn run(set: &[u8], plan: &[u8], out: &mut [i64], scratch: &mut [u64]) -> Report
     let columns = columns_at(set, plan, 0);
     let codes = rows * columns;
     if out.len() < codes {
-        return refused(15);
+        return Err(Refusal::OutputShort);
     }
-    write_codes(scratch, out, codes);
-    Report {
-        refusal: 0,
-        rows,
-        columns,
-    }
+    write_codes(&scratch[..codes], out);
+    Ok(Report { rows, columns })
 }
 
 // The report of an input that 1 to 14 do not turn back and that needs so many cells of scratch. Scratch is left to be cleared.
@@ -52,32 +38,29 @@ fn report_accepted(
     cells: usize,
     out: &mut [i64],
     scratch: &mut [u64],
-) -> Report
+) -> Result<Report, Refusal>
     requires plan_value { input_refusal set.now plan.now ≡ 0 }
     requires cells_value { cells ≡ need (tables_of set.now) (plan_of plan.now) }
     ensures { Reported set.now plan.now out.old out.new scratch.old
         (replicate (length scratch.old) 0) result }
 {
     if scratch.len() < cells {
-        return refused(16);
+        return Err(Refusal::ScratchShort);
     }
     run(set, plan, out, scratch)
 }
 
-// The report of a plan over a set of tables: its number, counts and codes. Any bytes, and buffers of any length, are taken.
-pub fn report(set: &[u8], plan: &[u8], out: &mut [i64], scratch: &mut [u64]) -> Report
+// The report of a plan over a set of tables: its counts and codes, or a refusal. Any bytes, and buffers of any length, are taken.
+pub fn report(
+    set: &[u8],
+    plan: &[u8],
+    out: &mut [i64],
+    scratch: &mut [u64],
+) -> Result<Report, Refusal>
     ensures { Reported set.now plan.now out.old out.new scratch.old scratch.new result }
 {
-    match check_input(set, plan) {
-        Checked::Refused(number) => refused(number),
-        Checked::Accepted {
-            tables,
-            nodes,
-            need,
-        } => {
-            let answer = report_accepted(set, plan, need, out, scratch);
-            clear(scratch);
-            answer
-        }
-    }
+    let accepted = check_input(set, plan)?;
+    let answer = report_accepted(set, plan, accepted.need, out, scratch);
+    clear(scratch);
+    answer
 }

@@ -29,18 +29,13 @@ pub(crate) fn select(
     let w = ids.len();
     let none = [0u8; 0];
     let test = find_test(negated, form, &none, ids, env);
-    let mut i = 0;
     let mut out = 0;
-    let mut src = own;
-    let mut dst = 0;
-    while i < m {
-        if condition_holds(test, cells, 0, src) {
-            copy_row(cells, src, dst, w);
+    for i in 0..m {
+        let src = own + i * w;
+        if condition_holds(&test, cells, 0, src) {
+            copy_row(cells, src, out * w, w);
             out += 1;
-            dst += w;
         }
-        i += 1;
-        src += w;
     }
     out
 }
@@ -51,11 +46,8 @@ fn cut_row(cells: &mut [u64], src: usize, dst: usize, ids: &[u8], list: &[u8], e
     ensures { CutWritten list.now ids.now env.now src dst cells.old cells.new }
 {
     let w = ids.len();
-    let mut j = 0;
-    while j < list.len() {
-        let cell = column(ids, &cells[src..src + w], env, list[j]);
-        cells[dst + j] = cell;
-        j += 1;
+    for (j, &id) in list.iter().enumerate() {
+        cells[dst + j] = column(ids, &cells[src..src + w], env, id);
     }
 }
 
@@ -64,12 +56,8 @@ fn cut_row_at(cells: &mut [u64], src: usize, dst: usize, places: &[u8])
     requires { (dst + length places.now ≤ src) × Inside places.now (length cells.old - src) }
     ensures { PickWritten places.now src dst cells.old cells.new }
 {
-    let mut j = 0;
-    while j < places.len() {
-        let place = places[j] as usize;
-        let cell = cells[src + place];
-        cells[dst + j] = cell;
-        j += 1;
+    for (j, &place) in places.iter().enumerate() {
+        cells[dst + j] = cells[src + place as usize];
     }
 }
 
@@ -80,14 +68,8 @@ fn cut_rows(cells: &mut [u64], own: usize, m: usize, ids: &[u8], list: &[u8], en
 {
     let w = ids.len();
     let n = list.len();
-    let mut i = 0;
-    let mut src = own;
-    let mut dst = 0;
-    while i < m {
-        cut_row(cells, src, dst, ids, list, env);
-        i += 1;
-        src += w;
-        dst += n;
+    for i in 0..m {
+        cut_row(cells, own + i * w, i * n, ids, list, env);
     }
     m
 }
@@ -98,14 +80,9 @@ fn cut_rows_at(cells: &mut [u64], own: usize, m: usize, w: usize, places: &[u8])
     ensures { PicksGiven places.now w own m cells.old result cells.new }
 {
     let n = places.len();
-    let mut i = 0;
-    let mut src = own;
-    let mut dst = 0;
-    while i < m {
-        cut_row_at(cells, src, dst, places);
-        i += 1;
-        src += w;
-        dst += n;
+    for i in 0..m {
+        let src = own + i * w;
+        cut_row_at(cells, src, i * n, places);
     }
     m
 }
@@ -132,8 +109,8 @@ pub(crate) fn project(
     }
     let mut places = [0u8; 7];
     let found = positions_of(list, ids, &mut places);
-    if found < n {
+    if found.len() < n {
         return cut_rows(cells, own, m, ids, list, env);
     }
-    cut_rows_at(cells, own, m, ids.len(), &places[0..n])
+    cut_rows_at(cells, own, m, ids.len(), found)
 }

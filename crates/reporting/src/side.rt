@@ -5,11 +5,12 @@ ghost use Rattle.reading.specs.Tree.{form_of};
 ghost use Rattle.reporting.specs.Keys.{keys_hold};
 ghost use Rattle.reporting.specs.Rows.{env_of};
 ghost use Rattle.reporting.specs.Sides.{side_cell, SideInside, SideFor, MeasuredFor, ConditionFor, PlacesFor, FoundFor, side_places, turned_found};
-ghost use Rattle.reporting.specs.Known.{side_shared, SharedIf};
+ghost use Rattle.reporting.specs.Known.{side_shared, compared_shared, SharedIf};
 
-use crate::gather::aggregate_code;
+use crate::gather::{AggregateKind, aggregate_kind};
 use crate::places::place_of;
 use crate::test::{has_keys, key_comparison};
+use reading::comparison::Comparison;
 use reading::plan::{Node, Test};
 
 // Where a value is read: at a place of the left row, at a place of the right row, or it is one word whatever the rows.
@@ -20,30 +21,35 @@ pub enum Side {
     Word(u64),
 }
 
-// A comparison of two sides under a not-mark; where it is an always, the outcome under the mark is true whatever the sides.
+// A comparison of two sides.
 #[derive(Clone, Copy)]
-pub struct Condition {
-    pub always: bool,
-    pub comparison: u8,
+pub struct Compared {
+    pub comparison: Comparison,
     pub left: Side,
     pub right: Side,
+}
+
+// A comparison under a not-mark; with none, the outcome under the mark is true whatever the rows.
+#[derive(Clone, Copy)]
+pub struct Condition {
+    pub compared: Option<Compared>,
     pub negated: bool,
 }
 
-// What a node asks of a left row and a right row, and what its aggregate, by its code, measures of them.
+// What a node asks of a left row and a right row, and what its aggregate measures of them.
 #[derive(Clone, Copy)]
 pub struct Found {
     pub keys: Condition,
     pub test: Condition,
-    pub code: u8,
+    pub aggregate: AggregateKind,
     pub measured: Side,
 }
 
 // Where two keys stand that are compared by =, the left one in the left row and the right one in the right row.
 #[derive(Clone, Copy)]
-pub enum KeyPlaces {
-    Equal { left: usize, right: usize },
-    Other,
+pub struct KeyPlaces {
+    pub left: usize,
+    pub right: usize,
 }
 
 // ---- Sides
@@ -97,10 +103,7 @@ pub(crate) fn find_test(negated: bool, form: Test, cs: &[u8], ds: &[u8], env: &[
 {
     match form {
         Test::Always => Condition {
-            always: true,
-            comparison: 0,
-            left: Side::Word(0),
-            right: Side::Word(0),
+            compared: None,
             negated,
         },
         Test::Columns {
@@ -108,10 +111,11 @@ pub(crate) fn find_test(negated: bool, form: Test, cs: &[u8], ds: &[u8], env: &[
             left,
             right,
         } => Condition {
-            always: false,
-            comparison,
-            left: side_of(cs, ds, env, left),
-            right: side_of(cs, ds, env, right),
+            compared: Some(Compared {
+                comparison,
+                left: side_of(cs, ds, env, left),
+                right: side_of(cs, ds, env, right),
+            }),
             negated,
         },
         Test::Number {
@@ -119,10 +123,11 @@ pub(crate) fn find_test(negated: bool, form: Test, cs: &[u8], ds: &[u8], env: &[
             left,
             number,
         } => Condition {
-            always: false,
-            comparison,
-            left: side_of(cs, ds, env, left),
-            right: Side::Word(number),
+            compared: Some(Compared {
+                comparison,
+                left: side_of(cs, ds, env, left),
+                right: Side::Word(number),
+            }),
             negated,
         },
     }
@@ -134,62 +139,59 @@ fn find_keys(node: Node, cs: &[u8], ds: &[u8], env: &[u64]) -> Condition
     ensures { ConditionFor cs.now ds.now (env_of env.now) (keys_hold node.kind node) result }
 {
     let kind = node.kind;
+    if !has_keys(kind) {
+        return Condition {
+            compared: None,
+            negated: false,
+        };
+    }
     Condition {
-        always: !has_keys(kind),
-        comparison: key_comparison(kind, node.comparison),
-        left: side_of(cs, ds, env, node.left),
-        right: side_of(cs, ds, env, node.right),
+        compared: Some(Compared {
+            comparison: key_comparison(kind, node.comparison),
+            left: side_of(cs, ds, env, node.left),
+            right: side_of(cs, ds, env, node.right),
+        }),
         negated: false,
     }
 }
 
 // The places of two sides, where the first is one of the left row and the second one of the right row.
-fn side_places(left: Side, right: Side) -> KeyPlaces
+fn side_places(left: Side, right: Side) -> Option<KeyPlaces>
     ensures { result ≡ side_places left right }
 {
-    match left {
-        Side::Left(place) => match right {
-            Side::Left(_) => KeyPlaces::Other,
-            Side::Right(other) => KeyPlaces::Equal {
-                left: place,
-                right: other,
-            },
-            Side::Word(_) => KeyPlaces::Other,
-        },
-        Side::Right(_) => KeyPlaces::Other,
-        Side::Word(_) => KeyPlaces::Other,
+    match (left, right) {
+        (Side::Left(left), Side::Right(right)) => Some(KeyPlaces { left, right }),
+        _ => None,
     }
 }
 
 // Where the two keys of a condition stand, if it compares them by =.
-pub(crate) fn key_places(keys: Condition) -> KeyPlaces
+pub(crate) fn key_places(keys: Condition) -> Option<KeyPlaces>
     ensures { PlacesFor keys result }
 {
-    if keys.always {
-        return KeyPlaces::Other;
-    }
     if keys.negated {
-        return KeyPlaces::Other;
+        return None;
     }
-    if keys.comparison != 0 {
-        return KeyPlaces::Other;
+    let compared = keys.compared?;
+    match compared.comparison {
+        Comparison::Equal => side_places(compared.left, compared.right),
+        _ => None,
     }
-    let left = keys.left;
-    let right = keys.right;
-    side_places(left, right)
 }
 
 // ---- A node
 
 // What an aggregate measures; a count measures nothing.
-fn find_measured(code: u8, id: u8, cs: &[u8], ds: &[u8], env: &[u64]) -> Side
+fn find_measured(aggregate: AggregateKind, id: u8, cs: &[u8], ds: &[u8], env: &[u64]) -> Side
     requires { length env.now ≡ 256 }
-    ensures { MeasuredFor cs.now ds.now (env_of env.now) code id result }
+    ensures { MeasuredFor cs.now ds.now (env_of env.now) aggregate id result }
 {
-    if code == 0 {
-        return Side::Word(0);
+    match aggregate {
+        AggregateKind::Count => Side::Word(0),
+        AggregateKind::Sum | AggregateKind::Least | AggregateKind::Greatest => {
+            side_of(cs, ds, env, id)
+        }
     }
-    side_of(cs, ds, env, id)
 }
 
 // Finds the columns of a node, of a left row of columns cs and a right row of columns ds.
@@ -197,16 +199,23 @@ pub(crate) fn find(node: Node, cs: &[u8], ds: &[u8], env: &[u64]) -> Found
     requires { length env.now ≡ 256 }
     ensures { FoundFor node cs.now ds.now (env_of env.now) result }
 {
-    let code = aggregate_code(node);
+    let aggregate = aggregate_kind(node);
     let form = node.test;
-    let keys = find_keys(node, cs, ds, env);
-    let test = find_test(node.negated, form, cs, ds, env);
-    let measured = find_measured(code, node.column, cs, ds, env);
     Found {
-        keys,
-        test,
-        code,
-        measured,
+        keys: find_keys(node, cs, ds, env),
+        test: find_test(node.negated, form, cs, ds, env),
+        aggregate,
+        measured: find_measured(aggregate, node.column, cs, ds, env),
+    }
+}
+
+// Whether what is compared is the same for every left row.
+fn compared_shared(compared: Option<Compared>) -> bool
+    ensures { result ≡ compared_shared compared }
+{
+    match compared {
+        None => true,
+        Some(sides) => side_shared(sides.left) && side_shared(sides.right),
     }
 }
 
@@ -214,17 +223,7 @@ pub(crate) fn find(node: Node, cs: &[u8], ds: &[u8], env: &[u64]) -> Found
 pub(crate) fn is_shared(found: Found) -> bool
     ensures { SharedIf result found }
 {
-    let test = found.test;
-    let left = test.left;
-    let right = test.right;
-    let measured = found.measured;
-    if !side_shared(left) {
-        return false;
-    }
-    if !side_shared(right) {
-        return false;
-    }
-    side_shared(measured)
+    compared_shared(found.test.compared) && side_shared(found.measured)
 }
 
 impl Found {
@@ -232,23 +231,12 @@ impl Found {
     pub(crate) fn turned(self) -> Found
         ensures { result ≡ turned_found self }
     {
-        let keys = self.keys;
-        let measured = self.measured;
-        let test = self.test;
-        let left = test.left;
-        let right = test.right;
-        let other = Condition {
-            always: test.always,
-            comparison: test.comparison,
-            left,
-            right,
-            negated: !test.negated,
-        };
         Found {
-            keys,
-            test: other,
-            code: self.code,
-            measured,
+            test: Condition {
+                negated: !self.test.negated,
+                ..self.test
+            },
+            ..self
         }
     }
 }

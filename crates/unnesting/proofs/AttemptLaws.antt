@@ -20,22 +20,10 @@ use Rattle.reading.specs.Check.{input_refusal}
 use Rattle.reading.proofs.Places.{whole-size}
 use Rattle.reading.proofs.PlanBytes.{plan_passed}
 use Rattle.unnesting.specs.Shapes.{shape, ready, operator_rule}
-use Rattle.unnesting.specs.Attempts.{possible, Left, Tells, Smallest, Finds}
-use Rattle.unnesting.specs.declared.step.Tried.{Tried}
-use Rattle.unnesting.specs.declared.step.Tried.TheVariants.{No, Yes}
-use Rattle.unnesting.specs.declared.step.Found.{Found}
-use Rattle.unnesting.specs.declared.step.Found.TheVariants.{Nothing, Step as FoundStep}
+use Rattle.unnesting.specs.Attempts.{possible, Left, Smallest}
 use Rattle.unnesting.proofs.Demand3.{input-parts}
 use Rattle.unnesting.proofs.RuleLaws.{rule-at}
 use Rattle.unnesting.proofs.CandidateLaws.{number-at, attempt-possible, possible-none, possible-shape, attempt-past}
-
--- ---- an answer, by its case
-
-pub tells_none : (set buffer : List ℕ) (o : Option Plan) (r : Tried) → Tells set buffer o r → r ≡ No → o ≡ none
-tells_none set buffer o r h e = subst (Tells set buffer o) e h
-
-pub tells_left : (set buffer : List ℕ) (o : Option Plan) (r : Tried) (long cells : ℕ) → Tells set buffer o r → r ≡ Yes long cells → Left set buffer o long cells
-tells_left set buffer o r long cells h e = subst (Tells set buffer o) e h
 
 -- ---- the step at a place
 
@@ -142,11 +130,3 @@ module _ (set plan : List ℕ) (input : input_refusal set plan ≡ 0) where
         first = first;
         left = subst (λ (k : ℕ). Left set buffer (attempt (tables_of set) (record { number = k; place = i }) (plan_of plan)) long cells) (sym (rule-named i rule h e)) l;
       }
-
--- ---- an answer about the smallest place, by its case
-
-pub finds_nothing : (set buffer : List ℕ) (p : Plan) (r : Found) → Finds set buffer p r → r ≡ Nothing → (i : ℕ) → Still (tables_of set) p i
-finds_nothing set buffer p r h e = subst (Finds set buffer p) e h
-
-pub finds_step : (set buffer : List ℕ) (p : Plan) (r : Found) (rule place long cells : ℕ) → Finds set buffer p r → r ≡ FoundStep rule place long cells → Smallest set buffer p rule place long cells
-finds_step set buffer p r rule place long cells h e = subst (Finds set buffer p) e h

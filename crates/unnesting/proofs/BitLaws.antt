@@ -5,6 +5,10 @@ use mathlib.Core.Bool.{Bool, true, false, cond, ◌||◌}
 use mathlib.Core.List.{List, [], ◌∷◌, ◌++◌, append_assoc}
 use mathlib.Core.Option.{some}
 use native.Mathlib.Omega.{arith}
+use native.Mathlib.Decide.{ℕ_discrete}
+use lib.ListN.{length, set, replicate}
+use Rattle.std.proofs.lemmas.List.{get_or-set_other, get_or-replicate}
+use Rattle.std.proofs.lemmas.Grind.{get_or-set_at}
 use native.Mathlib.Nat.{pow-suc, div-one, one-mul, add_comm, add-zero, zero-add, suc-add}
 use native.Mathlib.Numerals.{add-one}
 use lib.Dec.{eqb, ltb, eqb-suc-zero, eqb-zero-suc, eqb-suc-suc, leb-suc-suc}
@@ -16,7 +20,8 @@ use Rattle.algebra.specs.Lists.{member, upward}
 use Rattle.algebra.specs.Rules.{lacking}
 use Rattle.reading.proofs.Places.{upward-more}
 use Rattle.reading.proofs.FlagLaws.{SameMembers, member_append, members_swap}
-use Rattle.unnesting.specs.Ids.{bit, word, Holds, Holding, Part, Puts, Lowest}
+use Rattle.unnesting.specs.Ids.{bit, word, Holds, Holding, Part, Puts, Lowest, SmallestFree}
+use Rattle.std.specs.Prelude.{Some, None}
 use Rattle.unnesting.specs.declared.ids.IdSet.{IdSet}
 
 -- the digit above the lowest of w is the digit of w / 2
@@ -120,17 +125,6 @@ same_test a b c d f g = go (eqb a b) refl
     go true e = e ∙ sym (eq-eqb c d (f (eqb-true a b e)))
     go false e = e ∙ sym (ne_eqb c d (λ q. eqb-false a b e (g q)))
 
-pub part-put : {w r base k id : ℕ} {ids : List ℕ} → Part w base ids → Puts w k r → base + k ≡ id → Part r base (id ∷ ids)
-part-put {w} {r} {base} {k} {id} {ids} p e q = record {
-  right = λ j l.
-      e.right j ∙ ap₂ (λ (x y : Bool). x || y) (same_test j k (base + j) id (λ s. omega arith) (λ s. omega arith)) (p.right j l);
-}
-
-pub part_keep : {w base id : ℕ} {ids : List ℕ} → Part w base ids → ((k : ℕ) → k < 64 → base + k ≡ id → ⊥) → Part w base (id ∷ ids)
-part_keep {w} {base} {id} {ids} p other = record {
-  right = λ j l. p.right j l ∙ ap (λ (x : Bool). x || member (base + j) ids) (sym (ne_eqb (base + j) id (other j l)));
-}
-
 pub part-found : {w r base id : ℕ} {ids : List ℕ} (n : ℕ) → Lowest w r → Part w base ids → r < 64 → base + r ≡ id → lacking (64 + n) base ids ≡ some id
 part-found {w} {r} {base} {id} {ids} n s p l q =
     s.search n base ids p ∙ ap (λ (b : Bool). cond b (some (base + r)) (lacking n (base + 64) ids)) (lt-ltb r 64 l) ∙ ap some q
@@ -141,13 +135,8 @@ part_full {w} {r} {base} {ids} n s p l =
 
 -- ---- sets, word by word
 
-pub record Parts (s : IdSet) (ids : List ℕ) : Type 0 where
-  pub a : Part s.a 0 ids
-  pub b : Part s.b 64 ids
-  pub c : Part s.c 128 ids
-  pub d : Part s.d 192 ids
-
-part-of : {s : IdSet} {ids : List ℕ} → Holds s ids → (q : ℕ) → q < 4 → Part (word s q) (64 * q) ids
+-- what stands in each word says what stands in the set
+pub part-of : {s : IdSet} {ids : List ℕ} → Holds s ids → (q : ℕ) → q < 4 → Part (word s q) (64 * q) ids
 part-of {s} {ids} h q l = record {
   right = λ k m.
       let e : (64 * q + k) / 64 ≡ q = omega arith in
@@ -155,25 +144,35 @@ part-of {s} {ids} h q l = record {
       ap₂ (λ (x y : ℕ). bit (word s x) y) (sym e) (sym f) ∙ h.right (64 * q + k) (omega arith);
 }
 
-pub parts : {s : IdSet} {ids : List ℕ} → Holds s ids → Parts s ids
-parts h = record { a = part-of h 0 (omega arith); b = part-of h 1 (omega arith); c = part-of h 2 (omega arith); d = part-of h 3 (omega arith) }
+pub holds_none : Holds (record { words = replicate 4 0 }) []
+holds_none = record { right = λ i l. ap (λ (x : ℕ). bit x (i % 64)) (get_or-replicate 4 (i / 64) 0 0 (omega arith)) ∙ bit-zero (i % 64) }
 
-of_parts : {s : IdSet} {ids : List ℕ} → Parts s ids → (q : ℕ) → q < 4 → Part (word s q) (64 * q) ids
-of_parts p zero l = p.a
-of_parts p (suc zero) l = p.b
-of_parts p (suc (suc zero)) l = p.c
-of_parts p (suc (suc (suc zero))) l = p.d
-of_parts p (suc (suc (suc (suc q)))) l = absurd (omega arith)
+-- ---- the search for an id, word by word
 
-pub whole : {s : IdSet} {ids : List ℕ} → Parts s ids → Holds s ids
-whole {s} {ids} p = record {
-  right = λ i l.
-      let e : 64 * (i / 64) + i % 64 ≡ i = omega arith in
-      (of_parts p (i / 64) (omega arith)).right (i % 64) (omega arith) ∙ ap (λ (x : ℕ). member x ids) e;
-}
+-- the words before the i-th have no free id
+pub record Searched (s : IdSet) (i : ℕ) : Type 0 where
+  pub full : (ids : List ℕ) → Holds s ids → lacking 256 0 ids ≡ lacking (64 * (4 - i)) (64 * i) ids
 
-pub part_none : (base : ℕ) → Part 0 base []
-part_none base = record { right = λ k l. bit-zero k }
+pub searched_none : (s : IdSet) → Searched s 0
+searched_none s = record { full = λ ids h. refl }
+
+module _ {s : IdSet} {i r : ℕ} (a : Searched s i) (l : i < 4) (p : Lowest (word s i) r) where
+  here : (ids : List ℕ) → lacking (64 * (4 - i)) (64 * i) ids ≡ lacking (64 + 64 * (3 - i)) (64 * i) ids
+  here ids = let e : 64 * (4 - i) ≡ 64 + 64 * (3 - i) = omega arith in ap (λ (n : ℕ). lacking n (64 * i) ids) e
+
+  pub searched-next : 64 ≤ r → Searched s (i + 1)
+  searched-next f = record {
+    full = λ ids h.
+        let e : 3 - i ≡ 4 - (i + 1) = omega arith in
+        let b : 64 * i + 64 ≡ 64 * (i + 1) = omega arith in
+        a.full ids h ∙ here ids ∙ part_full (64 * (3 - i)) p (part-of h i l) f ∙ ap₂ (λ (n m : ℕ). lacking (64 * n) m ids) e b;
+  }
+
+  pub searched-found : r < 64 → SmallestFree s (Some (64 * i + r))
+  searched-found f = record { found = λ ids h. sym (a.full ids h ∙ here ids ∙ part-found (64 * (3 - i)) p (part-of h i l) f refl) }
+
+pub searched_all : {s : IdSet} {i : ℕ} → Searched s i → i ≡ 4 → SmallestFree s None
+searched_all {s} {i} a e = record { found = λ ids h. sym (a.full ids h ∙ ap (λ (n : ℕ). lacking (64 * (4 - n)) (64 * n) ids) e) }
 
 -- only which ids below 256 stand in the list counts
 pub holds_same : {s : IdSet} {xs ys : List ℕ} → ((i : ℕ) → i < 256 → member i xs ≡ member i ys) → Holds s xs → Holds s ys
@@ -181,8 +180,22 @@ holds_same e h = record { right = λ i l. h.right i l ∙ e i l }
 
 -- ---- ids that are put into a set
 
-pub holding_none : (s : IdSet) → Holding s [] s
-holding_none s = record { after = λ ids h. h }
+-- one id more: its word has its digit set
+pub holding-put : (s : IdSet) (id r : ℕ) → length s.words ≡ 4 → id < 256 → Puts (word s (id / 64)) (id % 64) r
+    → Holding s (id ∷ []) (record { words = set s.words (id / 64) r })
+holding-put s id r long small p = record {
+  after = λ ids h. record {
+    right = λ i l. elim (ℕ_discrete (i / 64) (id / 64)) [
+      | yes e ↦
+          ap (λ (x : ℕ). bit x (i % 64)) (get_or-set_at s.words (id / 64) (i / 64) r 0 e (omega arith)) ∙ p.right (i % 64)
+          ∙ ap₂ (λ (x y : Bool). x || y) (same_test (i % 64) (id % 64) i id (λ q. omega arith) (λ q. omega arith))
+          (ap (λ (x : ℕ). bit (word s x) (i % 64)) (sym e) ∙ h.right i l)
+      | no d ↦
+          ap (λ (x : ℕ). bit x (i % 64)) (get_or-set_other s.words (id / 64) (i / 64) r 0 d) ∙ h.right i l
+          ∙ ap (λ (x : Bool). x || member i ids) (sym (ne_eqb i id (λ q. d (ap (λ (x : ℕ). x / 64) q))))
+    ];
+  };
+}
 
 pub holding_same : {s r : IdSet} {xs ys : List ℕ} → Holding s xs r → SameMembers xs ys → Holding s ys r
 holding_same {xs = xs} {ys = ys} a e = record { after = λ ids h. holds_same (λ i l. member_append i xs ids ∙ (ap (λ b. b || member i ids) (e.at i) ∙ sym (member_append i ys ids))) (a.after ids h) }

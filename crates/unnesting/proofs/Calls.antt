@@ -1,12 +1,19 @@
 -- No result of a call is left to the program. Assumes nothing.
-use Prim.Native.Nat.{ℕ}
+use Rattle.std.specs.Prelude.{Result, Ok, Err}
+use Prim.Native.Nat.{ℕ, zero, suc}
+use native.Mathlib.Omega.{arith}
 use mathlib.Core.Path.{◌≡◌, refl, sym, ap, ◌∙◌}
 use lib.ListN.{length}
 use Rattle.algebra.proofs.StayNotes.{note_smallest}
+use Rattle.reading.specs.Refusals.{refusal_of, number_of}
 use Rattle.reading.specs.TableSet.{tables_of}
 use Rattle.reading.specs.Tree.{plan_of}
 use Rattle.reading.specs.Check.{input_refusal}
-use Rattle.reporting.specs.Report.{row_count, column_count, report_codes, report_number, count_after, output_after, scratch_after}
+use Rattle.reading.specs.declared.refusal.Refusal.{Refusal}
+use Rattle.reading.proofs.Acceptance.{number-positive, number-back, Listed}
+use Rattle.reporting.specs.declared.answer.Report.{Report}
+use Rattle.reporting.specs.Report.{row_count, column_count, report_codes, report_number, count_after, output_after, scratch_after, answered_rows, answered_columns}
+use Rattle.reporting.proofs.Reports.{listed-report}
 use Rattle.unnesting.specs.Unnest.{unnest_steps, written_steps, written_plan, unnest_number, bytes_after}
 use Rattle.unnesting.specs.StayNote.{stay_answer}
 use Rattle.unnesting.specs.CheckSteps.{check_steps_number}
@@ -26,15 +33,47 @@ module _ {Given Buffers Sizes Answer : Type 0} {sizes : Buffers → Sizes} {Prom
 
 -- ---- the four calls
 
+-- a report by its number and its counts
+abbrev answer_of : ℕ → ℕ → ℕ → Result Report Refusal
+answer_of zero rows columns = Ok (record { rows = rows; columns = columns })
+answer_of (suc number) rows columns = Err (refusal_of (suc number))
+
+answer-number : (number rows columns : ℕ) → Listed number → number_of (answer_of number rows columns) ≡ number
+answer-number zero rows columns e = refl
+answer-number (suc number) rows columns e = e
+
+answer-rows : (number rows columns : ℕ) → answered_rows (answer_of number rows columns) ≡ count_after number rows
+answer-rows zero rows columns = refl
+answer-rows (suc number) rows columns = refl
+
+answer-columns : (number rows columns : ℕ) → answered_columns (answer_of number rows columns) ≡ count_after number columns
+answer-columns zero rows columns = refl
+answer-columns (suc number) rows columns = refl
+
+-- no other answer has them
+answer-only : (r : Result Report Refusal) (number rows columns : ℕ) → number_of r ≡ number → answered_rows r ≡ count_after number rows → answered_columns r ≡ count_after number columns
+    → r ≡ answer_of number rows columns
+answer-only (Ok report) zero rows columns e m w = λ i. Ok (record { rows = m i; columns = w i })
+answer-only (Ok report) (suc number) rows columns e m w = absurd (omega arith)
+answer-only (Err k) zero rows columns e m w = absurd (omega (arith, number-positive k))
+answer-only (Err k) (suc number) rows columns e m w = ap Err (sym (number-back k) ∙ ap refusal_of e)
+
 report_determined : Determined report_sizes ReportPromise
 report_determined = record {
   answer = λ (set, plan) (room, scratch_room).
-      let n : ℕ = report_number set plan room scratch_room in
-      record { refusal = n; rows = count_after n (row_count set plan); columns = count_after n (column_count set plan) };
+      answer_of (report_number set plan room scratch_room) (row_count set plan) (column_count set plan);
   after = λ (set, plan) (out, scratch).
       (output_after (report_number set plan (length out) (length scratch)) (report_codes set plan) out, scratch_after (input_refusal set plan) scratch);
-  kept = λ given before. record { number = refl; rows = refl; columns = refl; output = refl; cleared = refl };
-  only = λ given before left r p. (λ i. (p.output i, p.cleared i), λ i. record { refusal = p.number i; rows = p.rows i; columns = p.columns i });
+  kept = λ (set, plan) (out, scratch).
+      let n : ℕ = report_number set plan (length out) (length scratch) in
+      record {
+        number = answer-number n (row_count set plan) (column_count set plan) (listed-report set plan (length out) (length scratch));
+        rows = answer-rows n (row_count set plan) (column_count set plan);
+        columns = answer-columns n (row_count set plan) (column_count set plan);
+        output = refl;
+        cleared = refl;
+      };
+  only = λ given before left r p. (λ i. (p.output i, p.cleared i), answer-only r _ _ _ p.number p.rows p.columns);
 }
 
 unnest_determined : Determined unnest_sizes UnnestPromise

@@ -1,5 +1,6 @@
 -- The plan after a rule at a place, over bytes: it is read from the bytes written, and whether they are accepted tells whether the rule fits.
 -- Assumes nothing.
+use Rattle.std.specs.Prelude.{Ok, Err}
 use Prim.Native.Nat.{ℕ, suc, ◌+◌, ◌*◌, ◌≤◌, ◌<◌}
 use mathlib.Core.Bool.{Bool, true, false, cond}
 use mathlib.Core.Path.{◌≡◌, refl, sym, ap, ap₂, ◌∙◌}
@@ -24,16 +25,16 @@ use Rattle.reading.specs.TableSet.{tables_of}
 use Rattle.reading.specs.Plan.{plan_mark, nodes_of}
 use Rattle.reading.specs.Tree.{plan_at, plan_of, whole_tree}
 use Rattle.reading.specs.Encoding.{test_bytes, no_test, list_bytes, field_bytes, node_bytes, node_bytes_as, plan_bytes, plan_bytes_as}
-use Rattle.reading.specs.Check.{input_refusal, check_of, check_as}
-use Rattle.reading.specs.declared.input.Checked.TheVariants.{Accepted, Refused as InputRefused}
+use Rattle.reading.specs.Check.{input_refusal, check_of}
+use Rattle.reading.specs.declared.input.Accepted.{Accepted}
+use Rattle.reading.specs.declared.refusal.Refusal.{Refusal}
 use Rattle.reading.proofs.Places.{whole-size, flat_map-joined}
 use Rattle.reading.proofs.PlanBytes.{PlanKnown, plan_passed, bytes_plan, passes-accepted}
 use Rattle.reading.specs.declared.version.Version.TheVariants.{Second}
-use Rattle.reporting.proofs.Reports.{answer-refused, accepted-input}
-use Rattle.unnesting.specs.Shapes.{shape, ready, node_slice, more_bytes, changed_bytes, changed_count, Makes, Shaped}
+use Rattle.reporting.proofs.Reports.{refused-input, accepted-input}
+use Rattle.unnesting.specs.Shapes.{shape, ready, node_slice, more_bytes, changed_bytes, changed_count, Makes}
 use Rattle.unnesting.specs.Images.{image}
 use Rattle.unnesting.specs.Attempts.{possible, Left}
-use Rattle.unnesting.specs.declared.change.Shape.{Shape}
 use Rattle.unnesting.specs.declared.change.Change.{Change}
 use Rattle.unnesting.proofs.PlaceLaws.{slice_join, slice_long, slice_at, inside-at}
 use Rattle.unnesting.proofs.Demand3.{input-parts, input-from}
@@ -144,12 +145,12 @@ module _ (T : Tables) (c : Option ℕ) (plan : List ℕ) (i : ℕ) (change : Cha
       let end = i + size (plan_at plan i) in
       let kept = node_slice plan (i + 1) change.keep in
       let inside : end ≤ nodes_of plan = inside-at plan whole i m.inside.place in
-      let joined : (image change.first ++ (kept ++ (more_bytes change ++ node_slice plan change.from end))) ++ node_slice plan end (nodes_of plan)
-      ≡ image change.first ++ (kept ++ (more_bytes change ++ (node_slice plan change.from end ++ node_slice plan end (nodes_of plan)))) = simp append_assoc in
+      let joined : (image change.first ++ (kept ++ (more_bytes change.more ++ node_slice plan change.from end))) ++ node_slice plan end (nodes_of plan)
+      ≡ image change.first ++ (kept ++ (more_bytes change.more ++ (node_slice plan change.from end ++ node_slice plan end (nodes_of plan)))) = simp append_assoc in
       ap (flat_map node_bytes) (s.becomes m.made) ∙ (flat_map-joined node_bytes s.left (flatten m.made ++ s.right)
       ∙ ap₂ ◌++◌ a.before (flat_map-joined node_bytes (flatten m.made) s.right
       ∙ (ap₂ ◌++◌ m.bytes a.past
-      ∙ (joined ∙ ap (λ (r : List ℕ). image change.first ++ (kept ++ (more_bytes change ++ r))) (slice_join plan change.from end (nodes_of plan) m.before inside)))))
+      ∙ (joined ∙ ap (λ (r : List ℕ). image change.first ++ (kept ++ (more_bytes change.more ++ r))) (slice_join plan change.from end (nodes_of plan) m.before inside)))))
 
   after-bytes : length (changed_bytes plan i change) ≡ 32 * changed_count plan i change → plan_mark Second ++ (changed_count plan i change ∷ changed_bytes plan i change) ≡ plan_bytes plan_after
   unfolding plan_bytes_as
@@ -259,12 +260,6 @@ candidate set plan i change input tree m long =
 written-long : (buffer bytes : List ℕ) (long count : ℕ) → long ≤ length buffer → long ≡ 6 + 32 * count → take long buffer ≡ plan_mark Second ++ (count ∷ bytes) → length bytes ≡ 32 * count
 written-long buffer bytes long count h e q = omega (arith, length-take-le long buffer h, ap length q)
 
-pub fit_none : (T : Tables) (c : Option ℕ) (plan : List ℕ) (i : ℕ) (answer : Shape) → Shaped T c plan i answer → answer.fits ≡ false → shape T c (plan_at plan i) ≡ none
-fit_none T c plan i answer h e = rw e at h
-
-pub fit-made : (T : Tables) (c : Option ℕ) (plan : List ℕ) (i : ℕ) (answer : Shape) → Shaped T c plan i answer → answer.fits ≡ true → Makes T c plan i answer.change
-fit-made T c plan i answer h e = rw e at h
-
 module _ (set plan : List ℕ) (i : ℕ) (change : Change) (input : input_refusal set plan ≡ 0) (tree : passes (tables_of set) (plan_of plan) ≡ true)
     (made : Makes (tables_of set) (fresh (tables_of set) (plan_of plan)) plan i change) (buffer : List ℕ) (long : ℕ) (room : length buffer ≡ 2086)
     (ends : long ≡ 6 + 32 * changed_count plan i change) (written : take long buffer ≡ plan_mark Second ++ (changed_count plan i change ∷ changed_bytes plan i change))
@@ -275,19 +270,18 @@ module _ (set plan : List ℕ) (i : ℕ) (change : Change) (input : input_refusa
     written-candidate : Candidate set plan i change
     written-candidate = candidate set plan i change input tree made (written-long buffer (changed_bytes plan i change) long (changed_count plan i change) (omega (arith, written-fits)) ends written)
 
-    pub tried-no : (number : ℕ) → check_of set (take long buffer) ≡ InputRefused number → possible (tables_of set) (plan_of plan) i ≡ none
-    unfolding check_as
-    tried-no number e =
+    pub tried-no : (k : Refusal) → check_of set (take long buffer) ≡ Err k → possible (tables_of set) (plan_of plan) i ≡ none
+    tried-no k e =
         let c = written-candidate in
         let b : take long buffer ≡ plan_bytes c.after = written ∙ c.bytes in
-        let (f, p) = answer-refused (input_refusal set (take long buffer)) _ _ _ number e in
+        let (f, p) = refused-input set (take long buffer) k e in
         c.turned (λ z. let q : input_refusal set (take long buffer) ≡ 0 = ap (input_refusal set) b ∙ z in absurd (omega arith))
 
-    pub tried_yes : (tables nodes cells : ℕ) → check_of set (take long buffer) ≡ Accepted tables nodes cells → Left set buffer (possible (tables_of set) (plan_of plan) i) long cells
-    tried_yes tables nodes cells e =
+    pub tried_yes : (a : Accepted) → check_of set (take long buffer) ≡ Ok a → Left set buffer (possible (tables_of set) (plan_of plan) i) long a.need
+    tried_yes given e =
         let c = written-candidate in
         let b : take long buffer ≡ plan_bytes c.after = written ∙ c.bytes in
-        let (f, n) = accepted-input set (take long buffer) tables nodes cells e in
+        let (f, n) = accepted-input set (take long buffer) given e in
         let z : input_refusal set (plan_bytes c.after) ≡ 0 = ap (input_refusal set) (sym b) ∙ f in
         let a = plan_passed set (plan_bytes c.after) (input-parts set (plan_bytes c.after) z).1 in
         let l : length (take long buffer) ≡ long = length-take-le long buffer (omega (arith, written-fits)) in

@@ -3,7 +3,7 @@ use Prim.Native.Nat.{ℕ, ◌+◌, ◌≤◌}
 use native.Mathlib.Omega.{arith}
 use mathlib.Core.Path.{◌≡◌, refl, sym, ap, ◌∙◌}
 use mathlib.Core.List.{List, [], ◌∷◌, ◌++◌, append_assoc}
-use lib.ListN.{length, take, drop, set, length-append, length-drop}
+use lib.ListN.{length, take, drop, set, length-append}
 use lib.Seq.{length-take-le, take_at, take-suc-set}
 use Rattle.reading.specs.Plan.{nodes_of, plan_mark}
 use Rattle.reading.specs.declared.version.Version.TheVariants.{Second}
@@ -19,30 +19,12 @@ written-front out at bytes r fits e =
     let long : length (take at out ++ bytes) ≡ r = length-append (take at out) bytes ∙ omega (arith, length-take-le at out (omega arith)) in
     ap (take r) (sym (append_assoc (take at out) bytes rest)) ∙ take_at (take at out ++ bytes) rest r long
 
--- the same for a part of a list, from a place on
-pub part-front : (s out : List ℕ) (start n k at : ℕ) → k ≡ n → start + n ≤ length s → at + n ≤ length out
-    → take (at + n) (bytes_written out at (take k (drop start s))) ≡ take at out ++ take n (drop start s)
-part-front s out start n k at e h g =
-    let long : length (take n (drop start s)) ≡ n = length-take-le n (drop start s) (omega (arith, length-drop start s)) in
-    rw e (written-front out at (take n (drop start s)) (at + n) (omega (arith, long)) (omega (arith, long)))
-
 -- the header: the mark, and the count behind it
 pub header-front : (out l : List ℕ) (count : ℕ) → 6 ≤ length out → length l ≡ length out → l ≡ bytes_written out 0 (plan_mark Second)
     → take 6 (set l 5 count) ≡ plan_mark Second ++ (count ∷ [])
 header-front out l count h k e =
     take-suc-set l 5 count (omega arith)
     ∙ ap (λ (s : List ℕ). s ++ (count ∷ [])) (ap (take 5) e ∙ written-front out 0 (plan_mark Second) 5 (omega arith) refl)
-
--- ---- the other nodes of a change, by their number
-
-pub more-none : (change : Change) → change.more ≡ 0 → more_bytes change ≡ []
-more-none change e = rw e
-
-pub more-one : (change : Change) → change.more ≡ 1 → more_bytes change ≡ image change.second
-more-one change e = rw e
-
-pub more-two : (change : Change) → change.more ≡ 2 → more_bytes change ≡ image change.second ++ image change.third
-more-two change e = rw e
 
 -- ---- the plan after a change, from its fronts: the header, and after each of the five steps
 
@@ -51,8 +33,8 @@ grown h a b c d e = simp append_assoc
 
 module _ (plan : List ℕ) (i : ℕ) (change : Change) (n count : ℕ) (m : n ≡ nodes_of plan) (k : count ≡ changed_count plan i change) where
   pub changed : {t₀ t₁ t₂ t₃ t₄ t₅ : List ℕ} → t₀ ≡ plan_mark Second ++ (count ∷ []) → t₁ ≡ t₀ ++ node_slice plan 0 i → t₂ ≡ t₁ ++ image change.first
-      → t₃ ≡ t₂ ++ node_slice plan (i + 1) change.keep → t₄ ≡ t₃ ++ more_bytes change → t₅ ≡ t₄ ++ node_slice plan change.from n
+      → t₃ ≡ t₂ ++ node_slice plan (i + 1) change.keep → t₄ ≡ t₃ ++ more_bytes change.more → t₅ ≡ t₄ ++ node_slice plan change.from n
       → t₅ ≡ plan_mark Second ++ (changed_count plan i change ∷ changed_bytes plan i change)
   changed e₀ e₁ e₂ e₃ e₄ e₅ =
       rw (e₅, e₄, e₃, e₂, e₁, e₀, m, k)
-      (grown (plan_mark Second ++ (changed_count plan i change ∷ [])) (node_slice plan 0 i) (image change.first) (node_slice plan (i + 1) change.keep) (more_bytes change) (node_slice plan change.from (nodes_of plan)))
+      (grown (plan_mark Second ++ (changed_count plan i change ∷ [])) (node_slice plan 0 i) (image change.first) (node_slice plan (i + 1) change.keep) (more_bytes change.more) (node_slice plan change.from (nodes_of plan)))

@@ -4,13 +4,11 @@ use Prim.Native.Nat.{ℕ, zero, suc, ◌+◌, ◌*◌, ◌≤◌, ◌<◌}
 use mathlib.Core.Bool.{Bool, true, false, cond, ◌&&◌, false≢true}
 use mathlib.Core.Path.{◌≡◌, refl, sym, ap, ap₂, ◌∙◌, subst}
 use mathlib.Core.List.{List, [], ◌∷◌, ◌++◌, append_assoc}
-use mathlib.Core.Logic.{inl, inr}
+use mathlib.Core.Logic.{◌⊎◌, inl, inr}
 use mathlib.Core.Option.{Option, none, some}
 use native.Mathlib.Omega.{arith}
-use native.Mathlib.Decide.{ℕ_discrete}
 use lib.Dec.{eqb, leb}
 use lib.ListN.{length, take, get_or}
-use borrow.Author.Tests.{ne_eqb}
 use Rattle.algebra.specs.Lists.{every, flat_map}
 use Rattle.algebra.specs.Cells.{Comparison, eq, gt, Aggregate, count, origin}
 use Rattle.algebra.specs.Plans.{Tables, test, Test as MarkedTest, plain, is_plain, number_of, Unary, select, project, distinct, group, sort, Binary, semi, pair, Plan, leaf, one, two}
@@ -26,13 +24,17 @@ use Rattle.reading.specs.Tree.{comparison_of, node_test, node_list, node_aggrega
 use Rattle.reading.specs.Encoding.{node_bytes}
 use Rattle.reading.specs.declared.plan.Test.{Test}
 use Rattle.reading.specs.declared.plan.Test.TheVariants.{Always, Number}
+use Rattle.reading.specs.declared.kinds.Kind.{Kind}
+use Rattle.reading.specs.declared.kinds.Kind.TheVariants.{Select, Project, Distinct, Semi, Anti, Pair, Group}
+use Rattle.reading.specs.declared.comparison.Comparison.TheVariants.{Equal, Greater}
 use Rattle.reading.specs.declared.plan.Node.{Node}
 use Rattle.reading.proofs.Ends.{end_at}
-use Rattle.reading.proofs.Operators.{by_kind, kind-above}
+use Rattle.reading.proofs.Operators.{each_kind, one_of, just}
 use Rattle.reading.proofs.Places.{root-at}
 use Rattle.reading.proofs.PlanBytes.{PlanKnown, plan_passed}
-use Rattle.unnesting.specs.Counts.{key_only, keyed, count_change}
-use Rattle.unnesting.specs.Images.{image, plain_node, project_node, test_comparison}
+use Rattle.unnesting.specs.Counts.{key_only, keyed, is_anti, count_change}
+use Rattle.unnesting.specs.Images.{image, plain_node, project_node, is_named, test_comparison}
+use Rattle.unnesting.specs.declared.change.More.TheVariants.{Nothing}
 use Rattle.unnesting.specs.Shapes.{any_sequence, shape, node_slice, more_bytes, Makes}
 use Rattle.unnesting.proofs.Demand3.{input-parts}
 use Rattle.unnesting.proofs.AllowedNodes.{AllowedNode, allowed_node}
@@ -69,12 +71,11 @@ key-root key (one (group a n l r c t) g) = refl
 key-root key (one (sort d ids) g) = refl
 key-root key (two b e f) = refl
 
-key-kind : (key : ℕ) (node : Node) (k : ℕ) → (k ≡ 4 → ⊥) → key_node key (operator_by k node) ≡ false
+key-kind : (key : ℕ) (node : Node) (k : Kind) → (k ≡ Distinct → ⊥) → key_node key (operator_by k node) ≡ false
 unfolding operator_by
 key-kind key node =
-    by_kind (λ k. (k ≡ 4 → ⊥) → key_node key (operator_by k node) ≡ false)
-    (λ n. refl) (λ n. refl) (λ n. refl) (λ n. refl) (λ n. absurd (n refl)) (λ n. refl) (λ n. refl) (λ n. refl) (λ n. refl) (λ n. refl) (λ n. refl) (λ n. refl) (λ n. refl) (λ n. refl) (λ n. refl)
-    (λ k h n. ap (key_node key) (kind-above node k h))
+    each_kind (λ k. (k ≡ Distinct → ⊥) → key_node key (operator_by k node) ≡ false)
+    (λ n. refl) (λ n. refl) (λ n. refl) (λ n. refl) (λ n. absurd (n refl)) (λ n. refl) (λ n. refl) (λ n. refl) (λ n. refl) (λ n. refl) (λ n. refl) (λ n. refl) (λ n. refl) (λ n. refl) (λ n. refl) (λ k n. refl)
 
 key-listed : (key n : ℕ) (s : List ℕ) → length s ≡ 7 → (n ≡ 1 → ⊥) → key_list key (take n s) ≡ false
 key-listed key zero s h d = refl
@@ -87,7 +88,7 @@ key-first : (key : ℕ) (s : List ℕ) → length s ≡ 7 → key_list key (take
 key-first key [] h = absurd (omega arith)
 key-first key (x ∷ s) h = refl
 
-operator_distinct : (node : Node) (k : ℕ) → k ≡ 4 → operator_by k node ≡ unary_node (distinct (node_list node))
+operator_distinct : (node : Node) (k : Kind) → k ≡ Distinct → operator_by k node ≡ unary_node (distinct (node_list node))
 unfolding operator_by
 operator_distinct node k e = rw e
 
@@ -103,10 +104,10 @@ module _ (plan : List ℕ) (e : ℕ) (h : e < nodes_of plan) (key : ℕ) (node :
   key-at : key_node key (operator_of node) ≡ key_only key (only_of (plan_at plan e))
   key-at = ap (λ (x : Node). key_node key (operator_of x)) q ∙ sym (key-root key (plan_at plan e) ∙ ap (key_node key) (root-at plan e h))
 
-  pub only-other : (node.kind ≡ 4 → ⊥) → false ≡ key_only key (only_of (plan_at plan e))
+  pub only-other : (node.kind ≡ Distinct → ⊥) → false ≡ key_only key (only_of (plan_at plan e))
   only-other d = sym (key-kind key node node.kind d) ∙ key-at
 
-  module _ (k : node.kind ≡ 4) where
+  module _ (k : node.kind ≡ Distinct) where
     long : length node.list ≡ 7
     long = rw q (node_long plan e)
 
@@ -119,30 +120,31 @@ module _ (plan : List ℕ) (e : ℕ) (h : e < nodes_of plan) (key : ℕ) (node :
     pub only-first : node.listed ≡ 1 → eqb (get_or node.list 0 0) key ≡ key_only key (only_of (plan_at plan e))
     only-first d = sym (ap (λ (n : ℕ). key_list key (take n node.list)) d ∙ key-first key node.list long) ∙ listed_at
 
--- ---- a node with one child, by its kind
+-- ---- a node by its kind
 
-abbrev unary_kind : Unary → ℕ
-unary_kind (select t) = 2
-unary_kind (project ids) = 3
-unary_kind (distinct ids) = 4
-unary_kind (group a n l r c t) = 13
-unary_kind (sort d ids) = 14
+abbrev pub is_select : Operator → Bool
+is_select (unary_node (select t)) = true
+is_select op = false
 
-abbrev pub has_kind : ℕ → Operator → Bool
-has_kind d (leaf_node x) = false
-has_kind d (unary_node u) = eqb (unary_kind u) d
-has_kind d (binary_node b) = false
+abbrev pub is_project : Operator → Bool
+is_project (unary_node (project ids)) = true
+is_project op = false
 
-pub other-kind : (d : ℕ) (node : Node) (k : ℕ) → (k ≡ d → ⊥) → has_kind d (operator_by k node) ≡ false
+pub other-select : (node : Node) (k : Kind) → (k ≡ Select → ⊥) → is_select (operator_by k node) ≡ false
 unfolding operator_by
-other-kind d node =
-    by_kind (λ k. (k ≡ d → ⊥) → has_kind d (operator_by k node) ≡ false)
-    (λ n. refl) (λ n. refl) (ne_eqb 2 d) (ne_eqb 3 d) (ne_eqb 4 d) (λ n. refl) (λ n. refl) (λ n. refl) (λ n. refl) (λ n. refl) (λ n. refl) (λ n. refl) (λ n. refl) (ne_eqb 13 d) (ne_eqb 14 d)
-    (λ k h n. ap (has_kind d) (kind-above node k h))
+other-select node =
+    each_kind (λ k. (k ≡ Select → ⊥) → is_select (operator_by k node) ≡ false)
+    (λ n. refl) (λ n. refl) (λ n. absurd (n refl)) (λ n. refl) (λ n. refl) (λ n. refl) (λ n. refl) (λ n. refl) (λ n. refl) (λ n. refl) (λ n. refl) (λ n. refl) (λ n. refl) (λ n. refl) (λ n. refl) (λ k n. refl)
+
+pub other-project : (node : Node) (k : Kind) → (k ≡ Project → ⊥) → is_project (operator_by k node) ≡ false
+unfolding operator_by
+other-project node =
+    each_kind (λ k. (k ≡ Project → ⊥) → is_project (operator_by k node) ≡ false)
+    (λ n. refl) (λ n. refl) (λ n. refl) (λ n. absurd (n refl)) (λ n. refl) (λ n. refl) (λ n. refl) (λ n. refl) (λ n. refl) (λ n. refl) (λ n. refl) (λ n. refl) (λ n. refl) (λ n. refl) (λ n. refl) (λ k n. refl)
 
 -- ---- a Select on top, by the node
 
-pub no-select : (p : Plan) → has_kind 2 (root p) ≡ false → (removed (top p) ≡ plain) × (bare (top p) ≡ p)
+pub no-select : (p : Plan) → is_select (root p) ≡ false → (removed (top p) ≡ plain) × (bare (top p) ≡ p)
 no-select (leaf x) h = (refl, refl)
 no-select (one (select s) g) h = absurd (false≢true (sym h))
 no-select (one (project ids) g) h = (refl, refl)
@@ -151,18 +153,17 @@ no-select (one (group a n l r c t) g) h = (refl, refl)
 no-select (one (sort d ids) g) h = (refl, refl)
 no-select (two b e f) h = (refl, refl)
 
-pub operator_select : (node : Node) (k : ℕ) → k ≡ 2 → operator_by k node ≡ unary_node (select (node_test node))
+pub operator_select : (node : Node) (k : Kind) → k ≡ Select → operator_by k node ≡ unary_node (select (node_test node))
 unfolding operator_by
 operator_select node k e = rw e
 
-operator_semi : (node : Node) (k : ℕ) → 6 ≤ k → k ≤ 7 → operator_by k node ≡ binary_node (semi (eqb k 7) node.left node.right (node_test node))
+operator_semi : (node : Node) (k : Kind) → (k ≡ Semi) ⊎ (k ≡ Anti) → operator_by k node ≡ binary_node (semi (is_anti k) node.left node.right (node_test node))
 unfolding operator_by
-operator_semi node k h g = elim (ℕ_discrete k 6) [
-  | yes e ↦ rw e
-  | no d ↦ let e : k ≡ 7 = omega arith in rw e
-]
+operator_semi node k =
+    let P : Kind → Type 0 = λ k. operator_by k node ≡ binary_node (semi (is_anti k) node.left node.right (node_test node)) in
+    one_of P refl (just P refl)
 
-operator_pair : (node : Node) (k : ℕ) → k ≡ 12 → operator_by k node ≡ binary_node (pair (node_aggregate node) node.id node.left node.right (comparison_of node.comparison) (node_test node))
+operator_pair : (node : Node) (k : Kind) → k ≡ Pair → operator_by k node ≡ binary_node (pair (node_aggregate node) node.id node.left node.right (comparison_of node.comparison) (node_test node))
 unfolding operator_by
 operator_pair node k e = rw e
 
@@ -217,11 +218,11 @@ module _ (T : Tables) where
 
 -- ---- at a place
 
-comparison-of : (b : Bool) → comparison_of (if b then 0 else 4) ≡ cond b eq gt
+comparison-of : (b : Bool) → comparison_of (cond b Equal Greater) ≡ cond b eq gt
 comparison-of true = refl
 comparison-of false = refl
 
-comparison-most : (b : Bool) → leb (if b then 0 else 4) 5 ≡ true
+comparison-most : (b : Bool) → is_named (cond b Equal Greater) ≡ true
 comparison-most true = refl
 comparison-most false = refl
 
@@ -262,47 +263,47 @@ module _ {set plan : List ℕ} {i : ℕ} {node : Node} {f : ℕ} (p : Placed set
   r = node.right
 
   -- ---- U3 and U4
-  module _ (kinds : (6 ≤ node.kind) × (node.kind ≤ 7) × (is_plain (node_test node) ≡ true)) where
+  module _ (kinds : ((node.kind ≡ Semi) ⊎ (node.kind ≡ Anti)) × (is_plain (node_test node) ≡ true)) where
     abbrev m : Bool
-    m = eqb node.kind 7
+    m = is_anti node.kind
 
     semi-at : TwoAt plan whole i h (semi m l r (node_test node)) f
-    semi-at = two_at plan whole i h (semi m l r (node_test node)) (sym (ap operator_of q) ∙ operator_semi node node.kind kinds.0 kinds.1) f p.ends
+    semi-at = two_at plan whole i h (semi m l r (node_test node)) (sym (ap operator_of q) ∙ operator_semi node node.kind kinds.0) f p.ends
 
     pub semi-inside : (i + 1 < nodes_of plan) × (f < nodes_of plan)
     semi-inside = (omega (arith, semi-at.first, semi-at.second), semi-at.second)
 
     pub count_unfree : shape T none (plan_at plan i) ≡ none
-    count_unfree = ap (shape T none) semi-at.tree ∙ count-free T m l r (node_test node) kinds.2 e (plan_at plan f)
+    count_unfree = ap (shape T none) semi-at.tree ∙ count-free T m l r (node_test node) kinds.1 e (plan_at plan f)
 
     module _ (c : ℕ) where
       count_at : shape T (some c) (plan_at plan i) ≡ when (keyed T l e (plan_at plan f)) (counted m c l r (removed (top (plan_at plan f))) (bare (top (plan_at plan f))))
-      count_at = ap (shape T (some c)) semi-at.tree ∙ count-is T c m l r (node_test node) kinds.2 e (plan_at plan f)
+      count_at = ap (shape T (some c)) semi-at.tree ∙ count-is T c m l r (node_test node) kinds.1 e (plan_at plan f)
 
       pub count_unkeyed : keyed T l e (plan_at plan f) ≡ false → shape T (some c) (plan_at plan i) ≡ none
       count_unkeyed k = rw k at count_at
 
       module _ (k : keyed T l e (plan_at plan f) ≡ true) where
         -- the tree at place j is f without its top Select, and that Select's test is the one given
-        module _ (j : ℕ) (negated : Bool) (t : Test) (allowed : leb (test_comparison t) 5 ≡ true) (after : f ≤ j) (last : j + size (plan_at plan j) ≡ i + size (plan_at plan i))
+        module _ (j : ℕ) (negated : Bool) (t : Test) (allowed : is_named (test_comparison t) ≡ true) (after : f ≤ j) (last : j + size (plan_at plan j) ≡ i + size (plan_at plan i))
             (took : removed (top (plan_at plan f)) ≡ test negated (form_of t)) (left : bare (top (plan_at plan f)) ≡ plan_at plan j) where
           abbrev made : Plan
           made = counted m c l r (test negated (form_of t)) (plan_at plan j)
 
-          select-bytes : image (plain_node 2 0 0 0 0 0 0 false (Number (if m then 0 else 4) c origin)) ≡ node_bytes (unary_node (select (test false (number_of (cond m eq gt) c origin))))
-          select-bytes = rw (comparison-of m) at (select-image false (Number (if m then 0 else 4) c origin) (comparison-most m))
+          select-bytes : image (plain_node Select 0 0 0 0 Equal 0 false (Number (cond m Equal Greater) c origin)) ≡ node_bytes (unary_node (select (test false (number_of (cond m eq gt) c origin))))
+          select-bytes = rw (comparison-of m) at (select-image false (Number (cond m Equal Greater) c origin) (comparison-most m))
 
-          group-bytes : image (plain_node 13 0 c l r 0 0 negated t) ≡ node_bytes (unary_node (group count c l r eq (test negated (form_of t))))
-          group-bytes = group-image negated t allowed 0 0 refl refl refl 0 refl c l r
+          group-bytes : image (plain_node Group 0 c l r Equal 0 negated t) ≡ node_bytes (unary_node (group count c l r eq (test negated (form_of t))))
+          group-bytes = group-image negated t allowed 0 0 refl refl refl Equal refl c l r
 
           count-bytes : flat_map node_bytes (flatten made)
-              ≡ image (project_node l) ++ (node_slice plan (i + 1) (i + 1) ++ (more_bytes (count_change i node c negated t j) ++ node_slice plan j (i + size (plan_at plan i))))
+              ≡ image (project_node l) ++ (node_slice plan (i + 1) (i + 1) ++ (more_bytes (count_change i node c negated t j).more ++ node_slice plan j (i + size (plan_at plan i))))
           unfolding flatten
           count-bytes =
               rw (slice_none plan (i + 1))
               (ap₂ ◌++◌ (sym (project-image l))
               (ap₂ ◌++◌ (sym select-bytes) (ap₂ ◌++◌ (sym group-bytes) (slice_at plan known j (omega (arith, inside-at plan whole i h)) ∙ ap (node_slice plan j) last))
-              ∙ sym (append_assoc (image (plain_node 2 0 0 0 0 0 0 false (Number (if m then 0 else 4) c origin))) (image (plain_node 13 0 c l r 0 0 negated t)) (node_slice plan j (i + size (plan_at plan i))))))
+              ∙ sym (append_assoc (image (plain_node Select 0 0 0 0 Equal 0 false (Number (cond m Equal Greater) c origin))) (image (plain_node Group 0 c l r Equal 0 negated t)) (node_slice plan j (i + size (plan_at plan i))))))
 
           count_makes : Makes T (some c) plan i (count_change i node c negated t j)
           count_makes =
@@ -314,7 +315,6 @@ module _ {set plan : List ℕ} {i : ℕ} {node : Node} {f : ℕ} (p : Placed set
                   kept = omega arith;
                   end = omega arith;
                   rest = omega (arith, inside-at plan whole i h);
-                  few = omega arith;
                   count = omega (arith, known.most, semi-at.first, keyed-long T l e (plan_at plan f) k, inside-at plan whole i h, size-positive (plan_at plan j));
                 };
                 before = omega arith;
@@ -322,19 +322,19 @@ module _ {set plan : List ℕ} {i : ℕ} {node : Node} {f : ℕ} (p : Placed set
               }
 
         module _ (inner : Node) (at : inner ≡ node_at plan f) where
-          pub count-selected : inner.kind ≡ 2 → Makes T (some c) plan i (count_change i node c inner.negated inner.test (f + 1))
+          pub count-selected : inner.kind ≡ Select → Makes T (some c) plan i (count_change i node c inner.negated inner.test (f + 1))
           count-selected v =
               let o = one_at plan whole f semi-at.second (select (node_test inner)) (sym (ap operator_of at) ∙ operator_select inner inner.kind v) in
               count_makes (f + 1) inner.negated inner.test (rw at (allowed_node plan known f semi-at.second).tested) (omega arith) (omega (arith, o.end, semi-at.end))
               (ap (λ (p : Plan). removed (top p)) o.tree) (ap (λ (p : Plan). bare (top p)) o.tree)
 
-          pub count-other : (inner.kind ≡ 2 → ⊥) → Makes T (some c) plan i (count_change i node c false Always f)
+          pub count-other : (inner.kind ≡ Select → ⊥) → Makes T (some c) plan i (count_change i node c false Always f)
           count-other d =
-              let o = no-select (plan_at plan f) (ap (has_kind 2) (root-at plan f semi-at.second ∙ ap operator_of (sym at)) ∙ other-kind 2 inner inner.kind d) in
+              let o = no-select (plan_at plan f) (ap is_select (root-at plan f semi-at.second ∙ ap operator_of (sym at)) ∙ other-select inner inner.kind d) in
               count_makes f false Always refl (omega arith) (sym semi-at.end) o.0 o.1
 
   -- ---- U6
-  module _ (kind : node.kind ≡ 12) where
+  module _ (kind : node.kind ≡ Pair) where
     abbrev t : MarkedTest
     t = node_test node
 
@@ -362,12 +362,11 @@ module _ {set plan : List ℕ} {i : ℕ} {node : Node} {f : ℕ} (p : Placed set
         group_unlocal g = rw (k, g) at group_at
 
         abbrev group_node : Node
-        group_node = plain_node 13 node.arg node.id l r node.comparison node.column node.negated node.test
+        group_node = plain_node Group node.arg node.id l r node.comparison node.column node.negated node.test
 
-        pub group_makes : local T t (plan_at plan f) ≡ true → (x y : Node)
-            → Makes T c plan i (record { first = group_node; keep = i + 1; more = 0; second = x; third = y; from = f })
+        pub group_makes : local T t (plan_at plan f) ≡ true → Makes T c plan i (record { first = group_node; keep = i + 1; more = Nothing; from = f })
         unfolding flatten
-        group_makes g x y =
+        group_makes g =
             let allowed = subst AllowedNode (sym q) (allowed_node plan known i h) in
             let bytes = group-image node.negated node.test allowed.tested node.arg node.column (allowed.aggregated (inr (inl kind))) allowed.measured allowed.counted
             node.comparison allowed.compared node.id l r in
@@ -379,7 +378,6 @@ module _ {set plan : List ℕ} {i : ℕ} {node : Node} {f : ℕ} (p : Placed set
                 kept = omega arith;
                 end = omega arith;
                 rest = omega (arith, pair-at.second);
-                few = omega arith;
                 count = omega (arith, known.most, pair-at.first, pair-at.second);
               };
               before = omega (arith, pair-at.end);

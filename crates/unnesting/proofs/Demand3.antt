@@ -1,4 +1,5 @@
 -- Demand 3 over bytes. Assumes nothing.
+use Rattle.std.specs.Prelude.{Ok}
 use Prim.Native.Nat.{ℕ, zero, suc, ◌+◌, ◌*◌, ◌≤◌, ◌<◌}
 use mathlib.Core.Bool.{true}
 use mathlib.Core.Path.{◌≡◌, refl, sym, ap, ◌∙◌}
@@ -143,7 +144,7 @@ record Answered (set plan : List ℕ) (cells : List ℤ) (rows columns : ℕ) : 
   columns_are : columns ≡ column_count set plan
   cells_are : cells ≡ report_codes set plan
 
-answered : (set plan : List ℕ) (out out' : List ℤ) (scratch scratch' : List ℕ) (rows columns : ℕ) → Reported set plan out out' scratch scratch' (record { refusal = 0; rows = rows; columns = columns })
+answered : (set plan : List ℕ) (out out' : List ℤ) (scratch scratch' : List ℕ) (rows columns : ℕ) → Reported set plan out out' scratch scratch' (Ok (record { rows = rows; columns = columns }))
     → Answered set plan (take (rows * columns) out') rows columns
 answered set plan out out' scratch scratch' rows columns r =
     let n = sym r.number in

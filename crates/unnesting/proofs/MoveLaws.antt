@@ -1,12 +1,11 @@
 -- What U7 and U8 make of the tree at a place, and that their changes write it. Assumes nothing.
-use Prim.Native.Nat.{ℕ, ◌+◌, ◌≤◌, ◌<◌}
-use mathlib.Core.Bool.{Bool, true, false}
+use Prim.Native.Nat.{ℕ, ◌+◌, ◌<◌}
+use mathlib.Core.Bool.{Bool, true, false, cond}
+use mathlib.Core.Logic.{◌⊎◌, inl, inr}
 use mathlib.Core.Path.{◌≡◌, refl, sym, ap, ap₂, ◌∙◌}
 use mathlib.Core.List.{List, ◌∷◌, ◌++◌}
 use mathlib.Core.Option.{Option, none}
 use native.Mathlib.Omega.{arith}
-use native.Mathlib.Decide.{ℕ_discrete}
-use lib.Dec.{leb}
 use Rattle.algebra.specs.Lists.{flat_map}
 use Rattle.algebra.specs.Plans.{Tables, Test, plain, is_plain, select, Binary, cross, semi, each, Plan, one, two}
 use Rattle.algebra.specs.Places.{unary_node, binary_node, size, flatten}
@@ -14,14 +13,18 @@ use Rattle.algebra.specs.Names.{closed}
 use Rattle.algebra.specs.Rules.{local, when}
 use Rattle.reading.specs.Plan.{node_at, nodes_of}
 use Rattle.reading.specs.Tree.{node_test, operator_by, operator_of, plan_at}
-use Rattle.reading.specs.Encoding.{mark_byte, node_bytes}
+use Rattle.reading.specs.Encoding.{node_bytes}
 use Rattle.reading.specs.Check.{input_refusal}
 use Rattle.reading.specs.declared.plan.Test.TheVariants.{Always}
+use Rattle.reading.specs.declared.kinds.Kind.{Kind}
+use Rattle.reading.specs.declared.kinds.Kind.TheVariants.{Select, Cross, Semi, Anti, Each}
+use Rattle.reading.specs.declared.comparison.Comparison.TheVariants.{Equal}
 use Rattle.reading.specs.declared.plan.Node.{Node}
 use Rattle.reading.proofs.Ends.{end_at}
 use Rattle.reading.proofs.Places.{flat_map-joined}
 use Rattle.reading.proofs.PlanBytes.{PlanPassed, plan_passed}
-use Rattle.unnesting.specs.Images.{image, plain_node, test_comparison}
+use Rattle.unnesting.specs.Images.{image, plain_node, is_named, test_comparison}
+use Rattle.unnesting.specs.declared.change.More.TheVariants.{Nothing, One}
 use Rattle.unnesting.specs.Shapes.{shape, node_slice, Makes}
 use Rattle.unnesting.proofs.AllowedNodes.{allowed_node}
 use Rattle.unnesting.proofs.Demand3.{input-parts}
@@ -33,17 +36,15 @@ use Rattle.unnesting.proofs.PlaceLaws.{slice_at, TwoAt, two_at}
 -- a Semi; with the mark, an Anti
 record Keyed (node : Node) : Type 0 where
   mark : Bool
-  kind : 6 + mark_byte mark ≡ node.kind
+  kind : cond mark Anti Semi ≡ node.kind
   is : operator_of node ≡ binary_node (semi mark node.left node.right (node_test node))
 
-keyed : (node : Node) → 6 ≤ node.kind → node.kind ≤ 7 → Keyed node
+keyed : (node : Node) → (node.kind ≡ Semi) ⊎ (node.kind ≡ Anti) → Keyed node
 unfolding operator_by
-keyed node h g = elim (ℕ_discrete node.kind 6) [
-  | yes e ↦ record { mark = false; kind = sym e; is = rw e }
-  | no n ↦ let e : node.kind ≡ 7 = omega arith in record { mark = true; kind = sym e; is = rw e }
-]
+keyed node (inl e) = record { mark = false; kind = sym e; is = rw e }
+keyed node (inr e) = record { mark = true; kind = sym e; is = rw e }
 
-each_node : (node : Node) → node.kind ≡ 11 → operator_of node ≡ binary_node each
+each_node : (node : Node) → node.kind ≡ Each → operator_of node ≡ binary_node each
 unfolding operator_by
 each_node node e = rw e
 
@@ -64,10 +65,6 @@ module _ (set plan : List ℕ) (passed : input_refusal set plan ≡ 0) where
   abbrev given : PlanPassed set plan
   given = plan_passed set plan (input-parts set plan passed).1
 
-  -- the places of an accepted plan are few
-  pub place-small : (i : ℕ) → i < nodes_of plan → i < 64
-  place-small i h = omega (arith, given.known.most)
-
   module _ (i : ℕ) (h : i < nodes_of plan) (node : Node) (e : node ≡ node_at plan i) (T : Tables) (c : Option ℕ) (j : ℕ) (ends : j ≡ end_at plan (i + 1)) where
     abbrev At : Binary → Type 0
     At b = TwoAt plan given.whole i h b j
@@ -84,9 +81,9 @@ module _ (set plan : List ℕ) (passed : input_refusal set plan ≡ 0) where
 
     -- ---- U7
 
-    module _ (low : 6 ≤ node.kind) (high : node.kind ≤ 7) (tested : is_plain (node_test node) ≡ false) where
+    module _ (kinds : (node.kind ≡ Semi) ⊎ (node.kind ≡ Anti)) (tested : is_plain (node_test node) ≡ false) where
       abbrev k : Keyed node
-      k = keyed node low high
+      k = keyed node kinds
 
       abbrev b : Binary
       b = semi k.mark node.left node.right (node_test node)
@@ -101,13 +98,12 @@ module _ (set plan : List ℕ) (passed : input_refusal set plan ≡ 0) where
       move-none l = is_moved false l
 
       -- it does not: it moves to a Select above f
-      pub move-made : local T (node_test node) (plan_at plan j) ≡ true → (first second third : Node)
-          → first ≡ plain_node node.kind 0 0 node.left node.right 0 0 false Always → second ≡ plain_node 2 0 0 0 0 0 0 node.negated node.test
-          → Makes T c plan i (record { first = first; keep = j; more = 1; second = second; third = third; from = j })
+      pub move-made : local T (node_test node) (plan_at plan j) ≡ true
+          → Makes T c plan i (record { first = plain_node node.kind 0 0 node.left node.right Equal 0 false Always; keep = j; more = One (plain_node Select 0 0 0 0 Equal 0 node.negated node.test); from = j })
       unfolding flatten
-      move-made l first second third p q =
+      move-made l =
           let a = at_node b k.is in
-          let compared : leb (test_comparison node.test) 5 ≡ true = ap (λ (x : Node). leb (test_comparison x.test) 5) e ∙ (allowed_node plan given.known i h).tested in
+          let compared : is_named (test_comparison node.test) ≡ true = ap (λ (x : Node). is_named (test_comparison x.test)) e ∙ (allowed_node plan given.known i h).tested in
           record {
             made = two (semi k.mark node.left node.right plain) (plan_at plan (i + 1)) (one (select (node_test node)) (plan_at plan j));
             is = is_moved true l;
@@ -116,20 +112,19 @@ module _ (set plan : List ℕ) (passed : input_refusal set plan ≡ 0) where
               kept = omega (arith, a.first);
               end = omega (arith, a.second);
               rest = omega (arith, a.second);
-              few = omega arith;
               count = omega (arith, a.first, a.second, given.known.most);
             };
             before = omega (arith, a.end);
             bytes =
                 ap₂ ◌++◌
-                (sym (ap image p ∙ (ap (λ (x : ℕ). image (plain_node x 0 0 node.left node.right 0 0 false Always)) (sym k.kind) ∙ keyed-image false Always refl k.mark node.left node.right)))
+                (sym (ap (λ (x : Kind). image (plain_node x 0 0 node.left node.right Equal 0 false Always)) (sym k.kind) ∙ keyed-image false Always refl k.mark node.left node.right))
                 (flat_map-joined node_bytes (flatten (plan_at plan (i + 1))) (unary_node (select (node_test node)) ∷ flatten (plan_at plan j))
-                ∙ ap₂ ◌++◌ (first-bytes b a) (ap₂ ◌++◌ (sym (ap image q ∙ select-image node.negated node.test compared)) (second-bytes b a)));
+                ∙ ap₂ ◌++◌ (first-bytes b a) (ap₂ ◌++◌ (sym (select-image node.negated node.test compared)) (second-bytes b a)));
           }
 
     -- ---- U8
 
-    module _ (is-each : node.kind ≡ 11) where
+    module _ (is-each : node.kind ≡ Each) where
       is-cross : (x : Bool) → closed T (plan_at plan j) ≡ x → shape T c (plan_at plan i) ≡ when x (two cross (plan_at plan (i + 1)) (plan_at plan j))
       is-cross x l = ap (shape T c) (at_node each (each_node node is-each)).tree ∙ cross-shape T c (plan_at plan (i + 1)) (plan_at plan j) x l
 
@@ -137,10 +132,10 @@ module _ (set plan : List ℕ) (passed : input_refusal set plan ≡ 0) where
       pub cross-none : closed T (plan_at plan j) ≡ false → shape T c (plan_at plan i) ≡ none
       cross-none l = is-cross false l
 
-      pub cross-made : closed T (plan_at plan j) ≡ true → (first second third : Node) → first ≡ plain_node 5 0 0 0 0 0 0 false Always
-          → Makes T c plan i (record { first = first; keep = j; more = 0; second = second; third = third; from = j })
+      pub cross-made : closed T (plan_at plan j) ≡ true
+          → Makes T c plan i (record { first = plain_node Cross 0 0 0 0 Equal 0 false Always; keep = j; more = Nothing; from = j })
       unfolding flatten
-      cross-made l first second third p =
+      cross-made l =
           let a = at_node each (each_node node is-each) in
           record {
             made = two cross (plan_at plan (i + 1)) (plan_at plan j);
@@ -150,11 +145,10 @@ module _ (set plan : List ℕ) (passed : input_refusal set plan ≡ 0) where
               kept = omega (arith, a.first);
               end = omega (arith, a.second);
               rest = omega (arith, a.second);
-              few = omega arith;
               count = omega (arith, a.first, a.second, given.known.most);
             };
             before = omega (arith, a.end);
             bytes =
-                ap₂ ◌++◌ (sym (ap image p ∙ cross-image))
+                ap₂ ◌++◌ (sym cross-image)
                 (flat_map-joined node_bytes (flatten (plan_at plan (i + 1))) (flatten (plan_at plan j)) ∙ ap₂ ◌++◌ (first-bytes each a) (second-bytes each a));
           }

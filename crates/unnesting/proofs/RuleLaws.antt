@@ -10,8 +10,10 @@ use Rattle.algebra.specs.Places.{binary_node}
 use Rattle.algebra.specs.Rules.{rule_of}
 use Rattle.reading.specs.Plan.{node_at, nodes_of}
 use Rattle.reading.specs.Tree.{operator_by, operator_of, operator_at, plan_at}
+use Rattle.reading.specs.declared.kinds.Kind.{Kind}
+use Rattle.reading.specs.declared.kinds.Kind.TheVariants.{Semi, Anti, Some, Every, Fold, Each, Pair}
 use Rattle.reading.specs.declared.plan.Node.{Node}
-use Rattle.reading.proofs.Operators.{by_kind, kind-above}
+use Rattle.reading.proofs.Operators.{each_kind}
 use Rattle.reading.proofs.Trees.{plan_case, first_tree, second_tree}
 use Rattle.unnesting.specs.Shapes.{operator_rule, shape}
 
@@ -30,16 +32,16 @@ unfolding rule_of
 rule-at plan i = plan_case plan i (λ op p. rule_of p ≡ operator_rule op) (λ x. refl) (λ u. refl) (λ b. binary_rule b (first_tree plan i) (second_tree plan i))
 
 -- the kinds that no rule is for
-pub no-rule : (node : Node) (k : ℕ) → (k ≡ 6 → ⊥) → (k ≡ 7 → ⊥) → (k ≡ 8 → ⊥) → (k ≡ 9 → ⊥) → (k ≡ 10 → ⊥) → (k ≡ 11 → ⊥) → (k ≡ 12 → ⊥)
+pub no-rule : (node : Node) (k : Kind) → (k ≡ Semi → ⊥) → (k ≡ Anti → ⊥) → (k ≡ Some → ⊥) → (k ≡ Every → ⊥) → (k ≡ Fold → ⊥) → (k ≡ Each → ⊥) → (k ≡ Pair → ⊥)
     → 0 ≡ operator_rule (operator_by k node)
 unfolding operator_by
 no-rule node =
-    by_kind
-    (λ k. (k ≡ 6 → ⊥) → (k ≡ 7 → ⊥) → (k ≡ 8 → ⊥) → (k ≡ 9 → ⊥) → (k ≡ 10 → ⊥) → (k ≡ 11 → ⊥) → (k ≡ 12 → ⊥) → 0 ≡ operator_rule (operator_by k node))
+    each_kind
+    (λ k. (k ≡ Semi → ⊥) → (k ≡ Anti → ⊥) → (k ≡ Some → ⊥) → (k ≡ Every → ⊥) → (k ≡ Fold → ⊥) → (k ≡ Each → ⊥) → (k ≡ Pair → ⊥) → 0 ≡ operator_rule (operator_by k node))
     (λ a b c d e f g. refl) (λ a b c d e f g. refl) (λ a b c d e f g. refl) (λ a b c d e f g. refl) (λ a b c d e f g. refl) (λ a b c d e f g. refl)
     (λ a b c d e f g. absurd (a refl)) (λ a b c d e f g. absurd (b refl)) (λ a b c d e f g. absurd (c refl)) (λ a b c d e f g. absurd (d refl))
     (λ a b c d e f g. absurd (e refl)) (λ a b c d e f g. absurd (f refl)) (λ a b c d e f g. absurd (g refl))
-    (λ a b c d e f g. refl) (λ a b c d e f g. refl) (λ k h a b c d e f g. sym (ap operator_rule (kind-above node k h)))
+    (λ a b c d e f g. refl) (λ a b c d e f g. refl) (λ k a b c d e f g. refl)
 
 -- where none is for the root, nothing is made of a tree
 semi-rule : (p m : Bool) → ◌≡◌ {A = ℕ} 0 (cond p (cond m 4 3) 7) → ⊥
@@ -66,13 +68,8 @@ none-at : (T : Tables) (c : Option ℕ) (plan : List ℕ) (i : ℕ) → i < node
     → shape T c (plan_at plan i) ≡ none
 none-at T c plan i h node e q = rule-none T c (plan_at plan i) (q ∙ (ap (λ (x : Node). operator_rule (operator_of x)) e ∙ sym (rule-at plan i h)))
 
--- of the kinds below a Semi, and of those above a Pair
-pub low-none : (T : Tables) (c : Option ℕ) (plan : List ℕ) (i : ℕ) → i < nodes_of plan → (node : Node) → node ≡ node_at plan i → node.kind < 6 → shape T c (plan_at plan i) ≡ none
-low-none T c plan i h node e l =
-    none-at T c plan i h node e
-    (no-rule node node.kind (λ q. omega arith) (λ q. omega arith) (λ q. omega arith) (λ q. omega arith) (λ q. omega arith) (λ q. omega arith) (λ q. omega arith))
-
-pub high-none : (T : Tables) (c : Option ℕ) (plan : List ℕ) (i : ℕ) → i < nodes_of plan → (node : Node) → node ≡ node_at plan i → 12 < node.kind → shape T c (plan_at plan i) ≡ none
-high-none T c plan i h node e l =
-    none-at T c plan i h node e
-    (no-rule node node.kind (λ q. omega arith) (λ q. omega arith) (λ q. omega arith) (λ q. omega arith) (λ q. omega arith) (λ q. omega arith) (λ q. omega arith))
+-- of a node of another kind
+pub other-none : (T : Tables) (c : Option ℕ) (plan : List ℕ) (i : ℕ) → i < nodes_of plan → (node : Node) → node ≡ node_at plan i
+    → (node.kind ≡ Semi → ⊥) → (node.kind ≡ Anti → ⊥) → (node.kind ≡ Some → ⊥) → (node.kind ≡ Every → ⊥) → (node.kind ≡ Fold → ⊥) → (node.kind ≡ Each → ⊥) → (node.kind ≡ Pair → ⊥)
+    → shape T c (plan_at plan i) ≡ none
+other-none T c plan i h node e p q r s t u v = none-at T c plan i h node e (no-rule node node.kind p q r s t u v)

@@ -1,6 +1,6 @@
 -- The run over bytes: the steps found so far lead from the plan given to the one that is held. Assumes nothing.
 use Prim.Native.Nat.{ℕ, ◌+◌, ◌*◌, ◌-◌, max, ◌≤◌, ◌<◌}
-use mathlib.Core.Bool.{Bool, true, false}
+use mathlib.Core.Bool.{true}
 use mathlib.Core.Path.{◌≡◌, refl, sym, ap, ◌∙◌, subst}
 use mathlib.Core.List.{List, [], ◌∷◌, ◌++◌}
 use native.Mathlib.Omega.{arith}
@@ -19,10 +19,10 @@ use Rattle.reading.proofs.Places.{flat_map-joined}
 use Rattle.reading.proofs.PlanBytes.{plan_passed, accepted-bytes}
 use Rattle.unnesting.specs.Unnest.{unnest_steps, unnest_need, step_bytes, written_steps, written_plan}
 use Rattle.unnesting.specs.Images.{bytes_written}
-use Rattle.unnesting.specs.Attempts.{Stored, Smallest, Ends, Runs}
+use Rattle.unnesting.specs.Attempts.{Stored, Smallest, Ends}
 use Rattle.unnesting.proofs.Demand3.{input-parts}
 use Rattle.unnesting.proofs.UnnestLaws.{passed-need}
-use Rattle.unnesting.proofs.Runs.{run-unique, Leads, leads_start, leads-step, leads-end, plan-small, steps-long, steps-few, plan_short}
+use Rattle.unnesting.proofs.Runs.{run-unique, Leads, leads_start, leads-step, leads-end, plan-small, steps-long, steps-few}
 
 -- bytes written to the front stand there
 pub front-written : (out bytes : List ℕ) → take (length bytes) (bytes_written out 0 bytes) ≡ bytes
@@ -166,16 +166,7 @@ module _ (set plan : List ℕ) (input : input_refusal set plan ≡ 0) where
               most = omega (arith, r.most, s.needed);
             }
 
--- ---- how a run ended, by its case
-
-module _ (enough : Bool) (set plan : List ℕ) (room : ℕ) (current steps : List ℕ) (count long : ℕ) (r : Runs enough set plan room current steps count long) where
-  pub runs-short : enough ≡ false → room < unnest_need set plan
-  runs-short e = subst (λ (b : Bool). Runs b set plan room current steps count long) e r
-
-  pub runs-ended : enough ≡ true → Ends set plan room current steps count long
-  runs-ended e = subst (λ (b : Bool). Runs b set plan room current steps count long) e r
-
--- what is then written
+-- ---- what is then written
 module _ (set plan : List ℕ) (input : input_refusal set plan ≡ 0) (room : ℕ) (current steps : List ℕ) (count long : ℕ) (d : Ends set plan room current steps count long) where
   pub ended_plan : (out : List ℕ) → bytes_written out 0 (take (long - 0) current) ≡ bytes_written out 0 (written_plan set plan)
   ended_plan out = let z : long - 0 ≡ long = omega arith in ap (λ (n : ℕ). bytes_written out 0 (take n current)) z ∙ ap (bytes_written out 0) d.last
@@ -188,6 +179,3 @@ module _ (set plan : List ℕ) (input : input_refusal set plan ≡ 0) (room : �
 
   pub ended-few : count ≤ 192
   ended-few = omega (arith, d.counted, steps-few set plan input)
-
-  pub ended-short : long ≤ 2054
-  ended-short = omega (arith, d.bytes, plan_short set plan input)

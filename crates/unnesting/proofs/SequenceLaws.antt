@@ -1,20 +1,22 @@
 -- The two sequences of U3, U4 and U6, and what rows decide. Assumes nothing.
-use Prim.Native.Nat.{ℕ, zero, suc, ◌+◌, ◌-◌, ◌≤◌, ◌<◌}
+use Rattle.std.specs.Prelude.{Result, Ok, Err, IsOk}
+use Prim.Native.Nat.{ℕ, zero, suc, ◌+◌, ◌-◌, min, ◌≤◌, ◌<◌}
 use mathlib.Core.Bool.{Bool, true, false, not, cond, true≢false, false≢true}
 use mathlib.Core.Logic.{◌≢◌, ◌⊎◌, inl, inr}
 use mathlib.Core.Path.{◌≡◌, refl, sym, ap, ap₂, ◌∙◌, subst}
 use mathlib.Core.List.{List, [], ◌∷◌, ◌++◌}
 use mathlib.Core.Option.{Option, none, some}
+use Rattle.std.specs.Prelude.{Option as Answer, None, Some, is_none}
 use native.Mathlib.Omega.{arith}
-use native.Mathlib.Decide.{ℕ_discrete}
+use native.Mathlib.Decide.{dec_lt}
 use native.Mathlib.Numerals.{add-one}
 use lib.Dec.{eqb}
-use lib.ListN.{length, get_or, take, drop, set as put, replicate, length-append, length-map}
-use lib.Seq.{take-suc, take_at, take-suc-set}
+use lib.ListN.{length, get_or, take, drop, replicate, length-append, length-map}
+use lib.Seq.{take-suc, take_at}
 use borrow.Author.Tests.{eq-eqb, ne_eqb, le-ltb}
 use Rattle.algebra.specs.Lists.{is_empty, flat_map, same_rows}
 use Rattle.algebra.specs.Plans.{Row, Tables, is_plain, select, distinct, Binary, cross, semi, quant, fold, each, pair, Plan, leaf, one, two, columns, eval}
-use Rattle.algebra.specs.Places.{Operator, binary_node}
+use Rattle.algebra.specs.Places.{binary_node}
 use Rattle.algebra.specs.Refusals.{width, need}
 use Rattle.algebra.specs.Rules.{outside, Top, top, bare, Only, only, another, only_of, u3, u6, u7, rule_of}
 use Rattle.algebra.specs.StayNotes.{sequences_of, comparing, first_difference}
@@ -24,22 +26,25 @@ use Rattle.reading.specs.TableSet.{tables_of}
 use Rattle.reading.specs.Plan.{node_at, nodes_of}
 use Rattle.reading.specs.Tree.{operator_by, operator_of, operator_at, node_test, node_aggregate, comparison_of, plan_at, plan_of, whole_tree}
 use Rattle.reading.specs.Check.{input_refusal}
+use Rattle.reading.specs.declared.kinds.Kind.{Kind}
+use Rattle.reading.specs.declared.kinds.Kind.TheVariants.{Select, Pair}
 use Rattle.reading.specs.declared.plan.Node.{Node}
-use Rattle.reading.proofs.Operators.{by_kind, kind-above}
+use Rattle.reading.proofs.Operators.{each_kind}
 use Rattle.reading.proofs.Trees.{plan_case}
 use Rattle.reading.proofs.Places.{root-at}
 use Rattle.reading.proofs.Ends.{end_at}
 use Rattle.reporting.specs.Report.{tree_rows, tree_cells, rows_number, RowsGiven}
+use Rattle.reading.specs.Refusals.{refusal_number}
+use Rattle.reading.specs.declared.refusal.Refusal.{Refusal}
+use Rattle.reading.proofs.Acceptance.{number-positive}
 use Rattle.reporting.specs.declared.answer.Report.{Report}
 use Rattle.reporting.proofs.Soundness.{sound-low}
 use Rattle.reporting.proofs.Subplans.{ready_at}
 use Rattle.unnesting.specs.Shapes.{any_sequence, shape, ready, operator_rule}
-use Rattle.unnesting.specs.Sequences.{ComparedAs, rows_of_one, same_of}
-use Rattle.unnesting.specs.declared.sequence.Compared.{Compared}
-use Rattle.unnesting.specs.declared.sequence.Compared.TheVariants.{Same, Differ}
+use Rattle.unnesting.specs.Sequences.{ComparedAs, rows_of_one}
 use Rattle.unnesting.proofs.PlaceLaws.{one_at, two_at}
 use Rattle.unnesting.proofs.RuleLaws.{rule-at}
-use Rattle.unnesting.proofs.CountLaws.{has_kind, no-select, other-kind, operator_select}
+use Rattle.unnesting.proofs.CountLaws.{is_select, no-select, other-select, operator_select}
 use Rattle.reporting.proofs.Widths.{Wide, nothing, more, eval-wide, table-wide}
 
 -- ---- sequences of cells, compared
@@ -64,26 +69,29 @@ common-end (x ∷ xs) (y ∷ ys) (suc i) h g t e =
     behind (inr (inl l)) = inr (inl (omega arith))
     behind (inr (inr l)) = inr (inr l)
 
+-- .. or goes to the end of the shorter one
+pub common-whole : (xs ys : List ℕ) (n : ℕ) → n ≡ min (length xs) (length ys) → take n xs ≡ take n ys → n ≡ first_difference (rows_of_one xs) (rows_of_one ys)
+common-whole xs ys n e t = elim (dec_lt (length xs) (length ys)) [
+  | yes l ↦ common-end xs ys n (omega arith) (omega arith) t (inl (omega arith))
+  | no l ↦ common-end xs ys n (omega arith) (omega arith) t (inr (inl (omega arith)))
+]
+
 -- a cell more of it
 pub common_next : (xs ys : List ℕ) (i : ℕ) → i < length xs → i < length ys → get_or xs i 0 ≡ get_or ys i 0 → take i xs ≡ take i ys → take (i + 1) xs ≡ take (i + 1) ys
 common_next xs ys i h g e t = rw (add-one i) (take-suc xs i 0 h ∙ (ap₂ (λ (a : List ℕ) (c : ℕ). a ++ (c ∷ [])) t e ∙ sym (take-suc ys i 0 g)))
 
 -- the outcome by the length of it
 module _ (xs ys : List ℕ) (common : ℕ) (e : common ≡ first_difference (rows_of_one xs) (rows_of_one ys)) where
-  pub differ-longer : length xs < length ys → ComparedAs (rows_of_one xs) (rows_of_one ys) (Differ common)
+  pub differ-longer : length xs < length ys → ComparedAs (rows_of_one xs) (rows_of_one ys) (Some common)
   differ-longer h = (common_part (rows_of_one xs) (rows_of_one ys) (inl (omega (arith, length-map xs (λ c. c ∷ []), length-map ys (λ c. c ∷ [])))), e)
 
-  pub differ-inside : common < length xs → ComparedAs (rows_of_one xs) (rows_of_one ys) (Differ common)
+  pub differ-inside : common < length xs → ComparedAs (rows_of_one xs) (rows_of_one ys) (Some common)
   differ-inside h = (common_part (rows_of_one xs) (rows_of_one ys) (inr (omega (arith, e, length-map xs (λ c. c ∷ [])))), e)
 
-  pub same-all : length ys ≤ length xs → length xs ≤ common → ComparedAs (rows_of_one xs) (rows_of_one ys) Same
+  pub same-all : length ys ≤ length xs → length xs ≤ common → ComparedAs (rows_of_one xs) (rows_of_one ys) None
   same-all l h =
       let n = length-map xs (λ c. c ∷ []) in
       common-all (rows_of_one xs) (rows_of_one ys) (omega (arith, n, length-map ys (λ c. c ∷ []))) (omega (arith, e, n))
-
--- a cell more is copied
-pub copied_next : (copy cells : List ℕ) (k : ℕ) → k < length copy → k < length cells → take k copy ≡ take k cells → take (k + 1) (put copy k (get_or cells k 0)) ≡ take (k + 1) cells
-copied_next copy cells k h g e = rw (add-one k) (take-suc-set copy k (get_or cells k 0) h ∙ (ap (λ (a : List ℕ). a ++ (get_or cells k 0 ∷ [])) e ∙ sym (take-suc cells k 0 g)))
 
 -- ---- the rows of a tree of one column
 
@@ -99,16 +107,29 @@ pub record InFront (set : List ℕ) (p : Plan) (rows : ℕ) (cells : List ℕ) :
   pub long : rows ≤ length cells
   pub values : rows_of_one (take rows cells) ≡ tree_rows set p
 
+-- what a call gave that is known not to be turned back
+pub unwrapped : {set plan : List ℕ} {p : Plan} {scratch scratch' : List ℕ} {q : Result Report Refusal} {r : Report} → q ≡ Ok r
+    → RowsGiven set plan p scratch scratch' q → RowsGiven set plan p scratch scratch' (Ok r)
+unwrapped {set} {plan} {p} {scratch} {scratch'} e g = subst (RowsGiven set plan p scratch scratch') e g
+
 module _ (set plan : List ℕ) (scratch : List ℕ) (a : input_refusal set plan ≡ 0) (h : need (tables_of set) (plan_of plan) ≤ length scratch) where
-  given-count : (p : Plan) (scratch' : List ℕ) (r : Report) → RowsGiven set plan p scratch scratch' r → r.rows ≡ length (tree_rows set p)
+  -- the call is not turned back
+  pub stands : (p : Plan) (scratch' : List ℕ) (r : Result Report Refusal) → RowsGiven set plan p scratch scratch' r → IsOk r
+  unfolding rows_number
+  stands p scratch' (Ok r) g = refl
+  stands p scratch' (Err k) g =
+      let n : refusal_number k ≡ 0 = rw (a, le-ltb (length scratch) (need (tables_of set) (plan_of plan)) h) at g.number in
+      absurd (omega (arith, number-positive k))
+
+  given-count : (p : Plan) (scratch' : List ℕ) (r : Report) → RowsGiven set plan p scratch scratch' (Ok r) → r.rows ≡ length (tree_rows set p)
   unfolding rows_number
   given-count p scratch' r g = rw (a, le-ltb (length scratch) (need (tables_of set) (plan_of plan)) h) at g.rows
 
-  given-cells : (p : Plan) (scratch' : List ℕ) (r : Report) → RowsGiven set plan p scratch scratch' r
+  given-cells : (p : Plan) (scratch' : List ℕ) (r : Report) → RowsGiven set plan p scratch scratch' (Ok r)
       → scratch' ≡ tree_cells set p ++ replicate (length scratch - length (tree_cells set p)) 0
   given-cells p scratch' r g = rw (a, le-ltb (length scratch) (need (tables_of set) (plan_of plan)) h) at g.cells
 
-  pub in-front : (p : Plan) (scratch' : List ℕ) (r : Report) → width (tables_of set) p ≡ 1 → RowsGiven set plan p scratch scratch' r → InFront set p r.rows scratch'
+  pub in-front : (p : Plan) (scratch' : List ℕ) (r : Report) → width (tables_of set) p ≡ 1 → RowsGiven set plan p scratch scratch' (Ok r) → InFront set p r.rows scratch'
   in-front p scratch' r w g =
       let wide : Wide 1 (tree_rows set p) = subst (λ (n : ℕ). Wide n (tree_rows set p)) w (eval-wide (tables_of set) (table-wide set) p outside) in
       let k = one-cells wide in
@@ -128,7 +149,7 @@ module _ (set plan : List ℕ) (scratch : List ℕ) (a : input_refusal set plan 
       let r = ready_at set plan (length scratch) a (omega arith) i in
       omega (arith, f.count, low_rows (tables_of set) (plan_at plan i) (sound-low r.sound) outside)
 
-  pub some-row : (p : Plan) (scratch' : List ℕ) (r : Report) → RowsGiven set plan p scratch scratch' r → not (eqb r.rows 0) ≡ not (is_empty (tree_rows set p))
+  pub some-row : (p : Plan) (scratch' : List ℕ) (r : Report) → RowsGiven set plan p scratch scratch' (Ok r) → not (eqb r.rows 0) ≡ not (is_empty (tree_rows set p))
   some-row p scratch' r g = by (tree_rows set p) (given-count p scratch' r g)
     where
       by : (rs : List Row) → r.rows ≡ length rs → not (eqb r.rows 0) ≡ not (is_empty rs)
@@ -140,15 +161,6 @@ unfolding columns
 keys-width T k p = refl
 
 -- ---- the nodes that compare sequences
-
-pub comparing-none : (u : ℕ) → (u ≡ 3 → ⊥) → (u ≡ 4 → ⊥) → (u ≡ 6 → ⊥) → false ≡ comparing u
-comparing-none u a b c = rw (ne_eqb u 3 a, ne_eqb u 4 b, ne_eqb u 6 c)
-
-pub comparing-semi : (u : ℕ) → 3 ≤ u → u < 5 → true ≡ comparing u
-comparing-semi u h g = elim (ℕ_discrete u 3) [
-  | yes e ↦ ap comparing (sym e)
-  | no l ↦ let e : u ≡ 4 = omega arith in ap comparing (sym e)
-]
 
 -- e is a Distinct of one column
 u3-width : (T : Tables) (c : Option ℕ) (m : Bool) (l r : ℕ) {e : Plan} (o : Only e) {f : Plan} (v : Top f) → u3 T any_sequence c m l r o v ≢ none → width T e ≡ 1
@@ -225,9 +237,9 @@ module _ (T : Tables) where
       by (pair a n l r k t) q = absurd (omega arith)
 
   -- the outcome of the comparison says it
-  pub ready-same : (p : Plan) (r : Compared) → comparing (rule_of p) ≡ true → ComparedAs (sequences_of T p).first (sequences_of T p).second r → same_of r ≡ ready T p
-  ready-same p Same q k = sym (ready-comparing p q ∙ k)
-  ready-same p (Differ n) q k = sym (ready-comparing p q ∙ k.0)
+  pub ready-same : (p : Plan) (r : Answer ℕ) → comparing (rule_of p) ≡ true → ComparedAs (sequences_of T p).first (sequences_of T p).second r → is_none r ≡ ready T p
+  ready-same p None q k = sym (ready-comparing p q ∙ k)
+  ready-same p (Some n) q k = sym (ready-comparing p q ∙ k.0)
 
 -- ---- by the node's kind
 
@@ -236,23 +248,22 @@ pub record SemiNode (node : Node) : Type 0 where
   pub is : operator_of node ≡ binary_node (semi mark node.left node.right (node_test node))
 
 module _ (node : Node) where
-  semi-by : (k : ℕ) → comparing (operator_rule (operator_by k node)) ≡ true → (k ≡ 12 → ⊥)
+  semi-by : (k : Kind) → comparing (operator_rule (operator_by k node)) ≡ true → (k ≡ Pair → ⊥)
       → (operator_by k node ≡ binary_node (semi false node.left node.right (node_test node))) ⊎ (operator_by k node ≡ binary_node (semi true node.left node.right (node_test node)))
   unfolding operator_by
-  semi-by k =
-      by_kind (λ k. comparing (operator_rule (operator_by k node)) ≡ true → (k ≡ 12 → ⊥)
+  semi-by =
+      each_kind (λ k. comparing (operator_rule (operator_by k node)) ≡ true → (k ≡ Pair → ⊥)
       → (operator_by k node ≡ binary_node (semi false node.left node.right (node_test node))) ⊎ (operator_by k node ≡ binary_node (semi true node.left node.right (node_test node))))
       (λ q z. absurd (false≢true q)) (λ q z. absurd (false≢true q)) (λ q z. absurd (false≢true q)) (λ q z. absurd (false≢true q)) (λ q z. absurd (false≢true q))
       (λ q z. absurd (false≢true q)) (λ q z. inl refl) (λ q z. inr refl) (λ q z. absurd (false≢true q)) (λ q z. absurd (false≢true q)) (λ q z. absurd (false≢true q))
-      (λ q z. absurd (false≢true q)) (λ q z. absurd (z refl)) (λ q z. absurd (false≢true q)) (λ q z. absurd (false≢true q))
-      (λ k h q z. absurd (false≢true (sym (ap (λ (op : Operator). comparing (operator_rule op)) (kind-above node k h)) ∙ q))) k
+      (λ q z. absurd (false≢true q)) (λ q z. absurd (z refl)) (λ q z. absurd (false≢true q)) (λ q z. absurd (false≢true q)) (λ k q z. absurd (false≢true q))
 
-  pub semi_node : comparing (operator_rule (operator_of node)) ≡ true → (node.kind ≡ 12 → ⊥) → SemiNode node
+  pub semi_node : comparing (operator_rule (operator_of node)) ≡ true → (node.kind ≡ Pair → ⊥) → SemiNode node
   semi_node q z = elim (semi-by node.kind q z) [ inl e ↦ record { mark = false; is = e } | inr e ↦ record { mark = true; is = e } ]
 
-  pub pair_node : node.kind ≡ 12 → operator_of node ≡ binary_node (pair (node_aggregate node) node.id node.left node.right (comparison_of node.comparison) (node_test node))
+  pub pair_node : node.kind ≡ Pair → operator_of node ≡ binary_node (pair (node_aggregate node) node.id node.left node.right (comparison_of node.comparison) (node_test node))
   unfolding operator_by
-  pair_node e = ap (λ (k : ℕ). operator_by k node) e
+  pair_node e = ap (λ (k : Kind). operator_by k node) e
 
 module _ (plan : List ℕ) (i : ℕ) (node : Node) (h : i < nodes_of plan) (e : node ≡ node_at plan i) where
   pub rule-here : operator_rule (operator_of node) ≡ rule_of (plan_at plan i)
@@ -262,11 +273,11 @@ module _ (plan : List ℕ) (i : ℕ) (node : Node) (h : i < nodes_of plan) (e : 
   pub record Found (T : Tables) (f key : ℕ) (q : Plan) : Type 0 where
     pub wide : width T (plan_at plan (i + 1)) ≡ 1
     pub inside : f < nodes_of plan
-    pub answer : (p : Plan) (r : Compared) → p ≡ q → ComparedAs (eval T (plan_at plan (i + 1)) outside) (eval T (one (distinct (key ∷ [])) p) outside) r
+    pub answer : (p : Plan) (r : Answer ℕ) → p ≡ q → ComparedAs (eval T (plan_at plan (i + 1)) outside) (eval T (one (distinct (key ∷ [])) p) outside) r
         → ComparedAs (sequences_of T (plan_at plan i)).first (sequences_of T (plan_at plan i)).second r
 
   module _ (T : Tables) (c : Option ℕ) (whole : whole_tree plan ≡ true) (f : ℕ) (end : f ≡ end_at plan (i + 1)) (q : comparing (rule_of (plan_at plan i)) ≡ true) (some : shape T c (plan_at plan i) ≢ none) where
-    pub found-semi : (node.kind ≡ 12 → ⊥) → Found T f node.right (bare (top (plan_at plan f)))
+    pub found-semi : (node.kind ≡ Pair → ⊥) → Found T f node.right (bare (top (plan_at plan f)))
     unfolding sequences_of
     found-semi z =
         let s = semi_node node (ap comparing rule-here ∙ q) z in
@@ -280,7 +291,7 @@ module _ (plan : List ℕ) (i : ℕ) (node : Node) (h : i < nodes_of plan) (e : 
               (subst (λ (p : Plan). ComparedAs (eval T (plan_at plan (i + 1)) outside) (eval T (one (distinct (node.right ∷ [])) p) outside) r) x k);
         }
 
-    pub found-pair : node.kind ≡ 12 → Found T f node.right (plan_at plan f)
+    pub found-pair : node.kind ≡ Pair → Found T f node.right (plan_at plan f)
     unfolding sequences_of
     found-pair z =
         let b : Binary = pair (node_aggregate node) node.id node.left node.right (comparison_of node.comparison) (node_test node) in
@@ -302,9 +313,9 @@ module _ (plan : List ℕ) (i : ℕ) (node : Node) (h : i < nodes_of plan) (e : 
 -- ---- the tree without its top Select
 
 module _ (plan : List ℕ) (f : ℕ) (node : Node) (h : f < nodes_of plan) (e : node ≡ node_at plan f) where
-  pub bare-select : whole_tree plan ≡ true → node.kind ≡ 2 → plan_at plan (f + 1) ≡ bare (top (plan_at plan f))
+  pub bare-select : whole_tree plan ≡ true → node.kind ≡ Select → plan_at plan (f + 1) ≡ bare (top (plan_at plan f))
   bare-select whole z =
       let t = one_at plan whole f h (select (node_test node)) (sym (ap operator_of e) ∙ operator_select node node.kind z) in sym (ap (λ (p : Plan). bare (top p)) t.tree)
 
-  pub bare-same : (node.kind ≡ 2 → ⊥) → plan_at plan f ≡ bare (top (plan_at plan f))
-  bare-same z = sym (no-select (plan_at plan f) (ap (has_kind 2) (root-at plan f h ∙ sym (ap operator_of e)) ∙ other-kind 2 node node.kind z)).1
+  pub bare-same : (node.kind ≡ Select → ⊥) → plan_at plan f ≡ bare (top (plan_at plan f))
+  bare-same z = sym (no-select (plan_at plan f) (ap is_select (root-at plan f h ∙ sym (ap operator_of e)) ∙ other-select node node.kind z)).1

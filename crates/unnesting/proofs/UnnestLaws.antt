@@ -1,6 +1,6 @@
 -- The unnesting call's number: 16 is met before 15, and by every plan passed through. Assumes nothing.
 use Prim.Native.Nat.{ℕ, zero, suc, ◌+◌, ◌≤◌, ◌<◌}
-use mathlib.Core.Path.{◌≡◌, sym, ◌∙◌, subst}
+use mathlib.Core.Path.{◌≡◌, sym, ◌∙◌}
 use mathlib.Core.List.{List, [], ◌∷◌, ◌++◌, map}
 use native.Mathlib.Omega.{arith}
 use lib.ListN.{length, drop, replicate}
@@ -8,12 +8,8 @@ use borrow.Author.Tests.{lt-ltb, le-ltb}
 use Rattle.algebra.specs.Plans.{Tables, Plan}
 use Rattle.algebra.specs.Refusals.{need}
 use Rattle.algebra.specs.Steps.{Step, or_else, attempt, after}
-use Rattle.reading.specs.TableSet.{tables_of}
-use Rattle.reading.specs.Tree.{plan_of}
-use Rattle.reading.specs.Check.{input_refusal, check_of, check_as}
-use Rattle.reading.specs.declared.input.Checked.TheVariants.{Refused as InputRefused}
+use Rattle.reading.specs.Check.{input_refusal}
 use Rattle.reporting.specs.Report.{scratch_after}
-use Rattle.reporting.proofs.Reports.{answer-refused}
 use Rattle.unnesting.specs.Unnest.{unnest_steps, passed_through, largest, unnest_need, written_steps, written_plan, unnest_number, Unnested}
 use Rattle.unnesting.specs.Images.{bytes_written}
 
@@ -61,16 +57,6 @@ module _ (set plan : List ℕ) (plan_room step_room scratch_room : ℕ) where
       unnest_0 h k =
           rw (passed, le-ltb scratch_room (unnest_need set plan) enough, le-ltb plan_room (length (written_plan set plan)) h, le-ltb step_room (length (written_steps set plan)) k)
 
-    -- a plan that the run passes through, the given and the last included, whose need scratch does not meet: 16
-    pub unnest-passed : (us vs : List Step) → unnest_steps set plan ≡ us ++ vs → scratch_room < need (tables_of set) (after (tables_of set) us (plan_of plan))
-        → unnest_number set plan plan_room step_room scratch_room ≡ 16
-    unfolding unnest_need
-    unnest-passed us vs e h =
-        let T = tables_of set in
-        let n : need T (after T us (plan_of plan)) ≤ unnest_need set plan =
-        subst (λ (ss : List Step). need T (after T us (plan_of plan)) ≤ largest (map (need T) (passed_through T ss (plan_of plan)))) (sym e) (passed-need T us vs (plan_of plan)) in
-        unnest_16 (omega arith)
-
 -- ---- the ends of the call
 
 -- bytes written at the front, and the rest as it was
@@ -86,13 +72,9 @@ module _ (set plan plan_out steps_out scratch scratch' : List ℕ) (refusal step
       → scratch' ≡ scratch_after (input_refusal set plan) scratch → Unnested set plan plan_out plan_out steps_out steps_out scratch scratch' refusal steps bytes
   refused-answer k e (r, s, b) c = record { number = r ∙ sym e; step_count = rw e s; byte_count = rw e b; plan_written = rw e; steps_written = rw e; cleared = c }
 
-  pub turned-back : (number : ℕ) → check_of set plan ≡ InputRefused number → RefusedBy number → scratch' ≡ scratch → Unnested set plan plan_out plan_out steps_out steps_out scratch scratch' refusal steps bytes
-  unfolding check_as
-  turned-back number e h c = let (f, p) = answer-refused (input_refusal set plan) _ _ _ number e in go number p f h
-    where
-      go : (k : ℕ) → 0 < input_refusal set plan → input_refusal set plan ≡ k → RefusedBy k → Unnested set plan plan_out plan_out steps_out steps_out scratch scratch' refusal steps bytes
-      go zero p f h = absurd (omega arith)
-      go (suc k) p f h = refused-answer k (unnest-refused set plan (length plan_out) (length steps_out) (length scratch) k f) h (rw f c)
+  pub turned-back : (number : ℕ) → input_refusal set plan ≡ number → 0 < number → RefusedBy number → scratch' ≡ scratch → Unnested set plan plan_out plan_out steps_out steps_out scratch scratch' refusal steps bytes
+  turned-back zero f p h c = absurd (omega arith)
+  turned-back (suc k) f p h c = refused-answer k (unnest-refused set plan (length plan_out) (length steps_out) (length scratch) k f) h (rw f c)
 
   module _ (passed : input_refusal set plan ≡ 0) (clean : scratch' ≡ replicate (length scratch) 0) where
     pub short_scratch : length scratch < unnest_need set plan → RefusedBy 16 → Unnested set plan plan_out plan_out steps_out steps_out scratch scratch' refusal steps bytes

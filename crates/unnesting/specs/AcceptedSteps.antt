@@ -1,6 +1,6 @@
 -- What is claimed of lists of steps made elsewhere and of the call that checks them (docs/DEFINITION.md, "Steps made elsewhere"). Definitions
 -- only; the proof is `accepted-steps` of proofs/AcceptedSteps.antt. A set, a plan, a list of steps and theirs are lists of bytes.
-use Rattle.std.specs.Prelude.{ℕ, ◌*◌, ◌≤◌, ◌≡◌, List, [], ◌∷◌, ℤ, length, take}
+use Rattle.std.specs.Prelude.{ℕ, ◌*◌, ◌≤◌, ◌≡◌, List, [], ◌∷◌, ℤ, length, take, Ok}
 use Rattle.std.proofs.Math.Option.{some}
 use Rattle.algebra.specs.Plans.{Tables, Plan}
 use Rattle.algebra.specs.Steps.{Step, attempt}
@@ -35,8 +35,8 @@ pub record SameReport (set plan other : List ℕ) : Type 0 where
   pub accepted : input_refusal set other ≡ 0
   pub same_columns : report_columns set other ≡ report_columns set plan
   pub same_rows : report_rows set other ≡ report_rows set plan
-  pub reporting : (out out' : List ℤ) (scratch scratch' : List ℕ) (rows columns : ℕ) → Reported set plan out out' scratch scratch' (record { refusal = 0; rows = rows; columns = columns })
-      → (next next' : List ℤ) (more more' : List ℕ) (rows' columns' : ℕ) → Reported set other next next' more more' (record { refusal = 0; rows = rows'; columns = columns' })
+  pub reporting : (out out' : List ℤ) (scratch scratch' : List ℕ) (rows columns : ℕ) → Reported set plan out out' scratch scratch' (Ok (record { rows = rows; columns = columns }))
+      → (next next' : List ℤ) (more more' : List ℕ) (rows' columns' : ℕ) → Reported set other next next' more more' (Ok (record { rows = rows'; columns = columns' }))
       → SameAnswers set plan (take (rows * columns) out') rows columns (take (rows' * columns') next') rows' columns'
 
 pub record AcceptedSteps : Type 0 where

@@ -1,6 +1,6 @@
 -- Plans held as bytes while the rules are tried, one step after another. The contracts of helpers speak of these; trying a step is the
 -- algebra's `attempt`, and the calls' answers are in `Unnest`, `StayNote` and `CheckSteps`. Definitions only.
-use Rattle.std.specs.Prelude.{ℕ, ◌*◌, ◌≤◌, ◌<◌, Bool, true, false, ◌≡◌, List, length, take}
+use Rattle.std.specs.Prelude.{ℕ, ◌*◌, ◌≤◌, ◌<◌, true, ◌≡◌, List, length, take, Option as Answer, None, Some, Result, Ok, Err}
 use Rattle.std.proofs.Math.Option.{Option, none, some}
 use Rattle.algebra.specs.Plans.{Tables, Plan}
 use Rattle.algebra.specs.Places.{modify}
@@ -16,12 +16,11 @@ use Rattle.unnesting.specs.Unnest.{unnest_steps, unnest_need, written_steps, wri
 use Rattle.unnesting.specs.Demand3.{bytes_left}
 use Rattle.unnesting.specs.CheckSteps.{listed, reached_need}
 use Rattle.unnesting.specs.Shapes.{shape}
-use Rattle.unnesting.specs.declared.step.Tried.{Tried}
-use Rattle.unnesting.specs.declared.step.Tried.TheVariants.{No, Yes}
+use Rattle.unnesting.specs.declared.step.Next.{Next}
 use Rattle.unnesting.specs.declared.step.Found.{Found}
-use Rattle.unnesting.specs.declared.step.Found.TheVariants.{Nothing, Step as FoundStep}
-use Rattle.unnesting.specs.declared.follow.Followed.{Followed}
-use Rattle.unnesting.specs.declared.follow.Followed.TheVariants.{Short, Unfit, Last}
+use Rattle.unnesting.specs.declared.run.Ran.{Ran}
+use Rattle.unnesting.specs.declared.follow.Stopped.{Stopped}
+use Rattle.unnesting.specs.declared.follow.Stopped.TheVariants.{Short, Unfit}
 
 -- the plan after the rule at a place, where rows do not stand against it and it passes 8 to 14
 abbrev pub possible : Tables → Plan → ℕ → Option Plan
@@ -42,9 +41,9 @@ pub record Left (set buffer : List ℕ) (plan : Option Plan) (long cells : ℕ) 
   pub is : plan ≡ some after
   pub stored : Stored set buffer long cells after
 
-abbrev pub Tells : List ℕ → List ℕ → Option Plan → Tried → Type 0
-Tells set buffer plan No = plan ≡ none
-Tells set buffer plan (Yes long cells) = Left set buffer plan long cells
+abbrev pub Tells : List ℕ → List ℕ → Option Plan → Answer Next → Type 0
+Tells set buffer plan None = plan ≡ none
+Tells set buffer plan (Some next) = Left set buffer plan next.length next.need
 
 -- the step at the smallest place where a rule fits, or that none fits anywhere
 pub record Smallest (set buffer : List ℕ) (p : Plan) (rule place long cells : ℕ) : Type 0 where
@@ -53,9 +52,9 @@ pub record Smallest (set buffer : List ℕ) (p : Plan) (rule place long cells : 
   pub first : (i : ℕ) → i < place → Still (tables_of set) p i
   pub left : Left set buffer (attempt (tables_of set) (record { number = rule; place = place }) p) long cells
 
-abbrev pub Finds : List ℕ → List ℕ → Plan → Found → Type 0
-Finds set buffer p Nothing = (i : ℕ) → Still (tables_of set) p i
-Finds set buffer p (FoundStep rule place long cells) = Smallest set buffer p rule place long cells
+abbrev pub Finds : List ℕ → List ℕ → Plan → Answer Found → Type 0
+Finds set buffer p None = (i : ℕ) → Still (tables_of set) p i
+Finds set buffer p (Some found) = Smallest set buffer p found.rule found.place found.next.length found.next.need
 
 -- ---- the run
 
@@ -67,11 +66,16 @@ pub record Ends (set plan : List ℕ) (room : ℕ) (current steps : List ℕ) (c
   pub bytes : long ≡ length (written_plan set plan)
   pub last : take long current ≡ written_plan set plan
 
-abbrev pub Runs : Bool → List ℕ → List ℕ → ℕ → List ℕ → List ℕ → ℕ → ℕ → Type 0
-Runs true set plan room current steps count long = Ends set plan room current steps count long
-Runs false set plan room current steps count long = room < unnest_need set plan
+abbrev pub Runs : List ℕ → List ℕ → ℕ → List ℕ → List ℕ → Answer Ran → Type 0
+Runs set plan room current steps None = room < unnest_need set plan
+Runs set plan room current steps (Some ran) = Ends set plan room current steps ran.steps ran.length
 
 -- ---- a list of steps followed
+
+-- the number that refuses a list which is not followed to its end
+abbrev pub stopped_number : Stopped → ℕ
+stopped_number Short = 16
+stopped_number Unfit = 21
 
 -- Scratch of so many cells was enough for every plan reached, and each step fitted in its turn: the plan left stands at the front of a buffer.
 pub record Arrives (set plan steps : List ℕ) (room : ℕ) (current : List ℕ) (long : ℕ) : Type 0 where
@@ -85,7 +89,7 @@ pub record Fails (set plan steps : List ℕ) (room : ℕ) : Type 0 where
   pub enough : reached_need set plan steps ≤ room
   pub fewer : fitted (tables_of set) (listed steps) (plan_of plan) < length (listed steps)
 
-abbrev pub Follows : List ℕ → List ℕ → List ℕ → ℕ → List ℕ → Followed → Type 0
-Follows set plan steps room current Short = room < reached_need set plan steps
-Follows set plan steps room current Unfit = Fails set plan steps room
-Follows set plan steps room current (Last long) = Arrives set plan steps room current long
+abbrev pub Follows : List ℕ → List ℕ → List ℕ → ℕ → List ℕ → Result ℕ Stopped → Type 0
+Follows set plan steps room current (Err Short) = room < reached_need set plan steps
+Follows set plan steps room current (Err Unfit) = Fails set plan steps room
+Follows set plan steps room current (Ok long) = Arrives set plan steps room current long

@@ -1,8 +1,9 @@
 -- No result of a call is left to the program (docs/DEFINITION.md, "The calls"): its answer and what it leaves in its buffers are functions of
 -- what it is given and lent. Definitions only; the proof is `nothing_left` of proofs/Calls.antt. A set and a plan are lists of bytes.
-use Rattle.std.specs.Prelude.{ℕ, ◌≡◌, List, ℤ, length}
+use Rattle.std.specs.Prelude.{ℕ, ◌≡◌, List, ℤ, length, Result}
 use Rattle.std.proofs.Math.Option.{some}
 use Rattle.algebra.specs.StayNotes.{Sequences, first_difference, SmallestDifference}
+use Rattle.reading.specs.declared.refusal.Refusal.{Refusal}
 use Rattle.reporting.specs.declared.answer.Report.{Report}
 use Rattle.reporting.specs.Report.{Reported}
 use Rattle.unnesting.specs.Unnest.{Unnested}
@@ -25,7 +26,7 @@ pub record Determined {Given Buffers Sizes Answer : Type 0} (sizes : Buffers →
 -- ---- the four calls: what they promise, and the sizes of what they are lent
 
 -- given a set and a plan; lent an output and scratch
-abbrev pub ReportPromise : List ℕ × List ℕ → List ℤ × List ℕ → List ℤ × List ℕ → Report → Type 0
+abbrev pub ReportPromise : List ℕ × List ℕ → List ℤ × List ℕ → List ℤ × List ℕ → Result Report Refusal → Type 0
 ReportPromise (set, plan) (out, scratch) (out', scratch') r = Reported set plan out out' scratch scratch' r
 
 abbrev pub report_sizes : List ℤ × List ℕ → ℕ × ℕ

@@ -1,7 +1,7 @@
 -- Demand 3 over bytes, whole (docs/DEFINITION.md, "The three demands"). Definitions only; the proof is `demand_3` of proofs/Demand3.antt.
 -- A set and a plan are lists of bytes. That each is below 256 is not asked for: the claim holds of any lists of numbers that the reading
 -- of bytes does not turn back.
-use Rattle.std.specs.Prelude.{ℕ, zero, suc, ◌+◌, ◌*◌, ◌≤◌, ◌≡◌, List, [], ◌∷◌, ℤ, length, take, drop, get_or}
+use Rattle.std.specs.Prelude.{ℕ, zero, suc, ◌+◌, ◌*◌, ◌≤◌, ◌≡◌, List, [], ◌∷◌, ℤ, length, take, drop, get_or, Ok}
 use Rattle.std.proofs.Math.Option.{none}
 use Rattle.algebra.specs.Plans.{Plan}
 use Rattle.algebra.specs.Steps.{weight, Step, attempt, after, fitted}
@@ -64,8 +64,8 @@ pub record Demand3 (set plan : List ℕ) (ss : List Step) : Type 0 where
       → OwnSteps set plan (steps_in steps steps_out') steps (take bytes plan_out')
   -- 4. Whatever buffers the reporting call gets, once for the first plan and once for the one left, where it refuses neither: its answers
   -- are the same.
-  pub reporting : (out out' : List ℤ) (scratch scratch' : List ℕ) (rows columns : ℕ) → Reported set plan out out' scratch scratch' (record { refusal = 0; rows = rows; columns = columns })
-      → (next next' : List ℤ) (more more' : List ℕ) (rows' columns' : ℕ) → Reported set (bytes_left set plan ss) next next' more more' (record { refusal = 0; rows = rows'; columns = columns' })
+  pub reporting : (out out' : List ℤ) (scratch scratch' : List ℕ) (rows columns : ℕ) → Reported set plan out out' scratch scratch' (Ok (record { rows = rows; columns = columns }))
+      → (next next' : List ℤ) (more more' : List ℕ) (rows' columns' : ℕ) → Reported set (bytes_left set plan ss) next next' more more' (Ok (record { rows = rows'; columns = columns' }))
       → SameAnswers set plan (take (rows * columns) out') rows columns (take (rows' * columns') next') rows' columns'
 
 -- Demand 3: of any set and plan that none of 1 to 14 turns back, and any list of steps.

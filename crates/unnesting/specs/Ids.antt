@@ -1,16 +1,14 @@
 -- Sets of ids below 256, as four words of 64 bits. The contracts of helpers speak of them. Definitions only.
-use Rattle.std.specs.Prelude.{ℕ, zero, suc, ◌+◌, ◌/◌, ◌%◌, ◌^◌, ◌<◌, Bool, cond, ◌||◌, ◌≡◌, List, ◌++◌, eqb, ltb}
-use Rattle.std.proofs.Math.Option.{Option, none, some}
+use Rattle.std.specs.Prelude.{ℕ, ◌+◌, ◌/◌, ◌%◌, ◌^◌, ◌<◌, Bool, cond, ◌||◌, ◌≡◌, List, ◌++◌, Option, Some, None, slice_index, eqb, ltb}
+use Rattle.std.proofs.Math.Option as maybe
 use Rattle.algebra.specs.Lists.{member}
 use Rattle.algebra.specs.Rules.{lacking}
 use Rattle.unnesting.specs.declared.ids.IdSet.{IdSet}
-use Rattle.unnesting.specs.declared.ids.Free.{Free}
-use Rattle.unnesting.specs.declared.ids.Free.TheVariants.{Id, None}
 
--- the free id of an answer
-abbrev pub free_of : Free → Option ℕ
-free_of (Id i) = some i
-free_of None = none
+-- the free id of an answer, as the algebra writes it
+abbrev pub free_of : Option ℕ → maybe.Option ℕ
+free_of (Some i) = maybe.some i
+free_of None = maybe.none
 
 -- is the digit k of the word set?
 unfoldable pub bit : ℕ → ℕ → Bool
@@ -18,10 +16,7 @@ bit w k = eqb (w / 2 ^ k % 2) 1
 
 -- the words of a set: id i is the digit i % 64 of the word i / 64
 abbrev pub word : IdSet → ℕ → ℕ
-word s zero = s.a
-word s (suc zero) = s.b
-word s (suc (suc zero)) = s.c
-word s (suc (suc (suc n))) = s.d
+word s i = slice_index s.words i
 
 -- the set has exactly the ids below 256 that stand in the list
 pub record Holds (s : IdSet) (ids : List ℕ) : Type 0 where
@@ -32,7 +27,7 @@ pub record Holding (s : IdSet) (new : List ℕ) (r : IdSet) : Type 0 where
   pub after : (ids : List ℕ) → Holds s ids → Holds r (new ++ ids)
 
 -- r is the smallest id that the set lacks
-pub record SmallestFree (s : IdSet) (r : Free) : Type 0 where
+pub record SmallestFree (s : IdSet) (r : Option ℕ) : Type 0 where
   pub found : (ids : List ℕ) → Holds s ids → free_of r ≡ lacking 256 0 ids
 
 -- ---- one word
@@ -48,4 +43,4 @@ pub record Part (w base : ℕ) (ids : List ℕ) : Type 0 where
 -- r is the lowest digit of the word that is not set, or 64: so much of a search for the first id that is lacking is done
 pub record Lowest (w r : ℕ) : Type 0 where
   pub search : (n base : ℕ) (ids : List ℕ) → Part w base ids
-      → lacking (64 + n) base ids ≡ cond (ltb r 64) (some (base + r)) (lacking n (base + 64) ids)
+      → lacking (64 + n) base ids ≡ cond (ltb r 64) (maybe.some (base + r)) (lacking n (base + 64) ids)

@@ -1,18 +1,20 @@
 -- What a rule makes of a node's tree, told apart into what the plan alone decides and what rows decide, and the bytes of the plan after it. The
 -- contracts of helpers speak of these; the rules are the algebra's `unnest`. Definitions only.
-use Rattle.std.specs.Prelude.{ℕ, ◌+◌, ◌*◌, ◌-◌, ◌≤◌, ◌<◌, Bool, true, false, not, cond, ◌≡◌, List, [], ◌++◌, eqb, take, drop, if◌then◌else◌}
+use Rattle.std.specs.Prelude.{ℕ, ◌+◌, ◌*◌, ◌-◌, ◌≤◌, ◌<◌, Bool, true, not, cond, ◌≡◌, List, [], ◌++◌, Option as Answer, MatchOption, take, drop}
 use Rattle.std.proofs.Math.Option.{Option, none, some}
 use Rattle.algebra.specs.Lists.{is_empty, flat_map}
 use Rattle.algebra.specs.Plans.{Tables, is_plain, cross, semi, quant, fold, each, pair, Plan, leaf, one, two, eval}
 use Rattle.algebra.specs.Places.{Operator, leaf_node, unary_node, binary_node, size, flatten}
 use Rattle.algebra.specs.Names.{closed}
-use Rattle.algebra.specs.Rules.{outside, sequenced, Sequence, top, unprojected, bare, only_of, when, u1, u3, u5, u6, u7}
+use Rattle.algebra.specs.Rules.{outside, sequenced, Sequence, top, unprojected, bare, only_of, when, fresh, u1, u3, u5, u6, u7}
 use Rattle.reading.specs.Plan.{nodes_of}
-use Rattle.reading.specs.Tree.{plan_at}
+use Rattle.reading.specs.TableSet.{tables_of}
+use Rattle.reading.specs.Tree.{plan_at, plan_of}
 use Rattle.reading.specs.Encoding.{node_bytes}
 use Rattle.unnesting.specs.Images.{image}
 use Rattle.unnesting.specs.declared.change.Change.{Change}
-use Rattle.unnesting.specs.declared.change.Shape.{Shape}
+use Rattle.unnesting.specs.declared.change.More.{More}
+use Rattle.unnesting.specs.declared.change.More.TheVariants.{Nothing, One, Two}
 
 -- ---- a rule without what rows decide
 
@@ -59,22 +61,27 @@ operator_rule (binary_node (pair a n l r k t)) = 6
 abbrev pub node_slice : List ℕ → ℕ → ℕ → List ℕ
 node_slice plan from to = take (32 * (to - from)) (drop (6 + 32 * from) plan)
 
--- of the nodes that a change may bring besides its first
-abbrev pub more_bytes : Change → List ℕ
-more_bytes change =
-    if eqb change.more 0 then [] else
-    if eqb change.more 1 then image change.second else
-    image change.second ++ image change.third
+-- of the nodes that a change brings besides its first
+abbrev pub more_bytes : More → List ℕ
+more_bytes Nothing = []
+more_bytes (One node) = image node
+more_bytes (Two node next) = image node ++ image next
+
+-- how many they are
+abbrev pub more_count : More → ℕ
+more_count Nothing = 0
+more_count (One node) = 1
+more_count (Two node next) = 2
 
 -- The nodes after a change at a place: those before it, the change's first node, those up to `keep`, the change's other nodes, and those from
 -- `from` on.
 abbrev pub changed_bytes : List ℕ → ℕ → Change → List ℕ
 changed_bytes plan i change =
     node_slice plan 0 i
-    ++ (image change.first ++ (node_slice plan (i + 1) change.keep ++ (more_bytes change ++ node_slice plan change.from (nodes_of plan))))
+    ++ (image change.first ++ (node_slice plan (i + 1) change.keep ++ (more_bytes change.more ++ node_slice plan change.from (nodes_of plan))))
 
 abbrev pub changed_count : List ℕ → ℕ → Change → ℕ
-changed_count plan i change = i + (1 + ((change.keep - (i + 1)) + (change.more + (nodes_of plan - change.from))))
+changed_count plan i change = i + (1 + ((change.keep - (i + 1)) + (more_count change.more + (nodes_of plan - change.from))))
 
 -- the places of a change lie in the plan, and the plan after it has at most 65 nodes: U7 alone brings one more than it takes
 pub record Inside (plan : List ℕ) (i : ℕ) (change : Change) : Type 0 where
@@ -82,7 +89,6 @@ pub record Inside (plan : List ℕ) (i : ℕ) (change : Change) : Type 0 where
   pub kept : i + 1 ≤ change.keep
   pub end : change.keep ≤ nodes_of plan
   pub rest : change.from ≤ nodes_of plan
-  pub few : change.more ≤ 2
   pub count : changed_count plan i change ≤ 65
 
 -- The change makes of the tree at its place what the node's rule does.
@@ -92,13 +98,12 @@ pub record Makes (T : Tables) (c : Option ℕ) (plan : List ℕ) (i : ℕ) (chan
   pub inside : Inside plan i change
   pub before : change.from ≤ i + size (plan_at plan i)
   pub bytes : flat_map node_bytes (flatten made)
-      ≡ image change.first ++ (node_slice plan (i + 1) change.keep ++ (more_bytes change ++ node_slice plan change.from (i + size (plan_at plan i))))
+      ≡ image change.first ++ (node_slice plan (i + 1) change.keep ++ (more_bytes change.more ++ node_slice plan change.from (i + size (plan_at plan i))))
 
--- whether the rule at a place fits, and its change
-abbrev pub ShapedBy : Tables → Option ℕ → List ℕ → ℕ → Bool → Change → Type 0
-ShapedBy T c plan i false change = shape T c (plan_at plan i) ≡ none
-ShapedBy T c plan i true change = Makes T c plan i change
+-- An answer about the rule at a place: its change, or that it does not fit.
+abbrev pub Shaped : Tables → Option ℕ → List ℕ → ℕ → Answer Change → Type 0
+Shaped T c plan i answer = MatchOption answer (shape T c (plan_at plan i) ≡ none) (λ change. Makes T c plan i change)
 
--- an answer about the rule at a place
-abbrev pub Shaped : Tables → Option ℕ → List ℕ → ℕ → Shape → Type 0
-Shaped T c plan i answer = ShapedBy T c plan i answer.fits answer.change
+-- the same with the smallest id introduced nowhere in the plan
+abbrev pub ShapedAt : List ℕ → List ℕ → ℕ → Answer Change → Type 0
+ShapedAt set plan i answer = Shaped (tables_of set) (fresh (tables_of set) (plan_of plan)) plan i answer

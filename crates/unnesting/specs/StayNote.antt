@@ -1,5 +1,5 @@
 -- The answer of the stay note call (docs/DEFINITION.md, "Stay notes" and "The calls"). A set and a plan are lists of bytes. Definitions only.
-use Rattle.std.specs.Prelude.{ℕ, zero, suc, ◌≡◌, List, length}
+use Rattle.std.specs.Prelude.{ℕ, zero, suc, ◌≡◌, List, length, Option as Answer, None as Nothing, Some}
 use Rattle.std.proofs.Math.Option.{Option, none, some}
 use Rattle.algebra.specs.StayNotes.{Sequences, note_at, first_difference}
 use Rattle.reading.specs.TableSet.{tables_of}
@@ -21,6 +21,11 @@ note_due set plan place = note_at (tables_of set) (plan_of plan) place
 abbrev pub note_of : Option Sequences → StayNote
 note_of none = None
 note_of (some s) = Position (first_difference s.first s.second)
+
+-- .. whose position this is
+abbrev pub position_of : Option Sequences → Answer ℕ
+position_of none = Nothing
+position_of (some s) = Some (first_difference s.first s.second)
 
 -- a refused call gives its number
 abbrev pub note_after : ℕ → Option Sequences → StayNote

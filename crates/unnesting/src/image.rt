@@ -1,62 +1,48 @@
 // A node's 32 bytes, and bytes written at a place.
-ghost use Rattle.std.specs.Prelude.{◌≡◌, ◌+◌, ◌≤◌, length};
-ghost use Rattle.reading.specs.Encoding.{mark_byte, number_bytes};
+ghost use Rattle.std.specs.Prelude.{◌≡◌, ◌+◌, ◌≤◌, false, length};
+ghost use Rattle.reading.specs.Encoding.{number_bytes};
 ghost use Rattle.reading.specs.declared.version.Version.TheVariants.{Second};
+ghost use Rattle.reading.specs.declared.comparison.Comparison.TheVariants.{Equal};
+ghost use Rattle.reading.specs.declared.plan.Test.TheVariants.{Always};
 ghost use Rattle.unnesting.specs.Images.{bytes_written, image, plain_node, test_image};
 
+use reading::comparison::Comparison;
+use reading::kinds::Kind;
 use reading::plan::{Node, Test};
 
-fn mark_byte(mark: bool) -> u8
-    ensures { result ≡ mark_byte mark }
-{
-    if mark { 1 } else { 0 }
-}
-
-// The eight bytes of a number that is held as a cell's word.
+// The eight bytes of a number that is held as a cell's word: half the range is added, as a sum that wraps.
 fn number_bytes(number: u64) -> [u8; 8]
     ensures { result ≡ number_bytes Second number }
 {
-    let code = if number < 9223372036854775808 {
-        number + 9223372036854775808
-    } else {
-        number - 9223372036854775808
-    };
-    [
-        (code % 256) as u8,
-        (code / 256 % 256) as u8,
-        (code / 256 / 256 % 256) as u8,
-        (code / 256 / 256 / 256 % 256) as u8,
-        (code / 256 / 256 / 256 / 256 % 256) as u8,
-        (code / 256 / 256 / 256 / 256 / 256 % 256) as u8,
-        (code / 256 / 256 / 256 / 256 / 256 / 256 % 256) as u8,
-        (code / 256 / 256 / 256 / 256 / 256 / 256 / 256 % 256) as u8,
-    ]
+    number.wrapping_add(9223372036854775808).to_le_bytes()
 }
 
 // A test's 16 bytes.
 fn test_image(negated: bool, test: Test) -> [u8; 16]
     ensures { result ≡ test_image negated test }
 {
-    let mark = mark_byte(negated);
+    let mark = u8::from(negated);
     match test {
         Test::Always => [0, 0, mark, 0, 0, 0, 0, 0, 0, 0, 0, 0, 0, 0, 0, 0],
         Test::Columns {
             comparison,
             left,
             right,
-        } => [
-            1, comparison, mark, left, right, 0, 0, 0, 0, 0, 0, 0, 0, 0, 0, 0,
-        ],
+        } => {
+            let compared = u8::from(comparison);
+            [
+                1, compared, mark, left, right, 0, 0, 0, 0, 0, 0, 0, 0, 0, 0, 0,
+            ]
+        }
         Test::Number {
             comparison,
             left,
             number,
         } => {
-            let code = number_bytes(number);
-            [
-                2, comparison, mark, left, code[0], code[1], code[2], code[3], code[4], code[5],
-                code[6], code[7], 0, 0, 0, 0,
-            ]
+            let compared = u8::from(comparison);
+            let mut bytes = [2, compared, mark, left, 0, 0, 0, 0, 0, 0, 0, 0, 0, 0, 0, 0];
+            bytes[4..12].copy_from_slice(&number_bytes(number));
+            bytes
         }
     }
 }
@@ -65,71 +51,41 @@ fn test_image(negated: bool, test: Test) -> [u8; 16]
 fn node_image(node: Node) -> [u8; 32]
     ensures { result ≡ image node }
 {
-    let l = node.list;
-    let test = node.test;
-    let t = test_image(node.negated, test);
-    [
-        node.kind,
+    let kind = u8::from(node.kind);
+    let comparison = u8::from(node.comparison);
+    let mut bytes = [0u8; 32];
+    bytes[0..9].copy_from_slice(&[
+        kind,
         node.arg,
         node.id,
         node.left,
         node.right,
-        node.comparison,
+        comparison,
         node.column,
         0,
         node.listed,
-        l[0],
-        l[1],
-        l[2],
-        l[3],
-        l[4],
-        l[5],
-        l[6],
-        t[0],
-        t[1],
-        t[2],
-        t[3],
-        t[4],
-        t[5],
-        t[6],
-        t[7],
-        t[8],
-        t[9],
-        t[10],
-        t[11],
-        t[12],
-        t[13],
-        t[14],
-        t[15],
-    ]
+    ]);
+    bytes[9..16].copy_from_slice(&node.list);
+    bytes[16..32].copy_from_slice(&test_image(node.negated, node.test));
+    bytes
 }
 
-// A node with no list.
-pub(crate) fn plain_node(
-    kind: u8,
-    arg: u8,
-    id: u8,
-    left: u8,
-    right: u8,
-    comparison: u8,
-    column: u8,
-    negated: bool,
-    test: Test,
-) -> Node
-    ensures { result ≡ plain_node kind arg id left right comparison column negated test }
+// A node of a kind whose other fields are zeros, with no list and a plain always test: what the nodes that the rules make are filled up from.
+pub(crate) fn plain_node(kind: Kind) -> Node
+    ensures { result ≡ plain_node kind 0 0 0 0 Equal 0 false Always }
 {
     Node {
         kind,
-        arg,
-        id,
-        left,
-        right,
-        comparison,
-        column,
+        arg: 0,
+        id: 0,
+        left: 0,
+        right: 0,
+        comparison: Comparison::Equal,
+        column: 0,
         listed: 0,
         list: [0; 7],
-        negated,
-        test,
+        negated: false,
+        test: Test::Always,
     }
 }
 
@@ -138,11 +94,7 @@ pub(crate) fn write_bytes(out: &mut [u8], at: usize, bytes: &[u8])
     requires { at + length bytes.now ≤ length out.old }
     ensures { out.new ≡ bytes_written out.old at bytes.now }
 {
-    let mut k = 0;
-    while k < bytes.len() {
-        out[at + k] = bytes[k];
-        k += 1;
-    }
+    out[at..at + bytes.len()].copy_from_slice(bytes);
 }
 
 // Writes a node's 32 bytes from a place on.

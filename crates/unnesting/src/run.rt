@@ -1,20 +1,14 @@
 // The run: at the smallest place where a rule fits, again and again.
-ghost use Rattle.std.specs.Prelude.{◌≡◌, true, [], ◌∷◌, ◌++◌, ◌+◌, ◌*◌, ◌≤◌, length, take};
-ghost use Rattle.algebra.specs.Refusals.{need, passes};
-ghost use Rattle.reading.specs.TableSet.{read_set, tables_of};
-ghost use Rattle.reading.specs.Tree.{plan_of};
-ghost use Rattle.reading.specs.Check.{input_refusal};
-ghost use Rattle.reading.specs.declared.set.SetRead.TheVariants.{Holds};
+ghost use Rattle.std.specs.Prelude.{◌≡◌, [], ◌∷◌, ◌++◌, ◌+◌, ◌*◌, ◌≤◌, length, take};
 ghost use Rattle.unnesting.specs.Attempts.{Runs};
 
 use crate::image::write_bytes;
-use crate::step::{Found, smallest_step};
+use crate::input::Input;
+use crate::step::smallest_step;
 
-// How a run ended: whether scratch was enough for every plan passed through, and where it was, how many steps there are and how long the
-// last plan is.
+// How a run ended for whose plans scratch was enough: how many steps there are and how long the last plan is.
 #[derive(Clone, Copy)]
 pub struct Ran {
-    pub enough: bool,
     pub steps: usize,
     pub length: usize,
 }
@@ -28,53 +22,41 @@ fn write_step(steps: &mut [u8], count: usize, rule: u8, place: u8)
     write_bytes(steps, 2 * count, &bytes);
 }
 
-// Runs from the plan given, over a set of so many tables; its need is known. Leaves the last plan at the front of `current`, and at the front
-// of `steps` two bytes for each step; `next` holds the plan after a step while it is tried. No plan takes more than 1,542 bytes, and no run
-// more than 192 steps.
+// Runs from the plan given. None where scratch is short of a plan passed through. Leaves the last plan at the front of `current`, and at the
+// front of `steps` two bytes for each step; `next` holds the plan after a step while it is tried. No plan takes more than 1,542 bytes, and no
+// run more than 192 steps. The loop ends where no rule fits, which no count tells before.
 pub(crate) fn run(
-    set: &[u8],
-    plan: &[u8],
-    tables: usize,
-    cells: usize,
+    input: Input<'_>,
     current: &mut [u8],
     next: &mut [u8],
     steps: &mut [u8],
     scratch: &mut [u64],
-) -> Ran
-    requires plan_value { (input_refusal set.now plan.now ≡ 0) × (passes (tables_of set.now) (plan_of plan.now) ≡ true) × (cells ≡ need (tables_of set.now) (plan_of plan.now)) }
-    requires current_len { (length current.old ≡ 2086) × (length next.old ≡ 2086) × (length steps.old ≡ 384) × (read_set set.now ≡ Holds tables) }
-    ensures { Runs result.enough set.now plan.now (length scratch.old) current.new steps.new result.steps result.length }
+) -> Option<Ran>
+    requires { (length current.old ≡ 2086) × (length next.old ≡ 2086) × (length steps.old ≡ 384) }
+    ensures { Runs input.entry.set.now input.entry.plan.now (length scratch.old) current.new steps.new result }
 {
-    write_bytes(current, 0, plan);
-    let mut bytes = plan.len();
-    let mut needed = cells;
+    write_bytes(current, 0, input.plan);
+    let mut bytes = input.plan.len();
+    let mut needed = input.need;
     let mut count = 0usize;
     while needed <= scratch.len() {
-        match smallest_step(set, &current[0..bytes], tables, next, scratch) {
-            Found::Nothing => {
-                return Ran {
-                    enough: true,
-                    steps: count,
-                    length: bytes,
-                };
-            }
-            Found::Step {
-                rule,
-                place,
-                length,
-                need,
-            } => {
-                write_step(steps, count, rule, place);
-                write_bytes(current, 0, &next[0..length]);
-                count += 1;
-                bytes = length;
-                needed = need;
-            }
-        }
+        let held = Input {
+            set: input.set,
+            plan: &current[0..bytes],
+            tables: input.tables,
+            need: needed,
+        };
+        let Some(found) = smallest_step(held, next, scratch) else {
+            return Some(Ran {
+                steps: count,
+                length: bytes,
+            });
+        };
+        write_step(steps, count, found.rule, found.place);
+        bytes = found.next.length;
+        needed = found.next.need;
+        write_bytes(current, 0, &next[0..bytes]);
+        count += 1;
     }
-    Ran {
-        enough: false,
-        steps: 0,
-        length: 0,
-    }
+    None
 }

@@ -1,16 +1,11 @@
 // The stay note call.
 ghost use Rattle.std.specs.Prelude.{◌≡◌, ◌≤◌, length};
-ghost use Rattle.algebra.specs.Refusals.{need};
-ghost use Rattle.reading.specs.TableSet.{read_set, tables_of};
-ghost use Rattle.reading.specs.Tree.{plan_of};
-ghost use Rattle.reading.specs.Check.{input_refusal};
-ghost use Rattle.reading.specs.declared.set.SetRead.TheVariants.{Holds};
-ghost use Rattle.unnesting.specs.StayNote.{StayNoted, note_due, note_of};
+ghost use Rattle.unnesting.specs.StayNote.{StayNoted, note_due, position_of};
 
-use crate::sequence::{Compared, compares, sequences_at};
+use crate::input::Input;
+use crate::sequence::{compares, sequences_at};
 use crate::shape::rule_of;
-use crate::step::{Tried, possible_at};
-use reading::input::{Checked, check_input};
+use crate::step::possible_at;
 use reading::plan::node_at;
 use reading::tree::nodes_of;
 use reporting::output::clear;
@@ -23,26 +18,38 @@ pub enum StayNote {
     Position(usize),
 }
 
-// The note at a place of an input of so many tables that 1 to 14 do not turn back, with scratch enough.
-fn note_at(set: &[u8], plan: &[u8], tables: usize, place: usize, scratch: &mut [u64]) -> StayNote
-    requires plan_value { input_refusal set.now plan.now ≡ 0 }
-    requires plan_in_bounds { (need (tables_of set.now) (plan_of plan.now) ≤ length scratch.old) × (read_set set.now ≡ Holds tables) }
-    ensures { result ≡ note_of (note_due set.now plan.now place) }
+// The position of the note at a place of an input that 1 to 14 do not turn back, with scratch enough.
+fn note_at(input: Input<'_>, place: usize, scratch: &mut [u64]) -> Option<usize>
+    requires { input.need ≤ length scratch.old }
+    ensures { result ≡ position_of (note_due input.entry.set.now input.entry.plan.now place) }
 {
-    if nodes_of(plan) <= place {
-        return StayNote::None;
+    if nodes_of(input.plan) <= place {
+        return None;
     }
-    let node = node_at(plan, place);
+    let node = node_at(input.plan, place);
     if !compares(rule_of(node)) {
-        return StayNote::None;
+        return None;
     }
     let mut after = [0u8; 2086];
-    match possible_at(set, plan, tables, place, node, &mut after) {
-        Tried::No => StayNote::None,
-        Tried::Yes { length: _, need: _ } => match sequences_at(set, plan, place, node, scratch) {
-            Compared::Same => StayNote::None,
-            Compared::Differ(position) => StayNote::Position(position),
-        },
+    match possible_at(input, place, node, &mut after) {
+        Some(_) => sequences_at(input, place, node, scratch),
+        None => None,
+    }
+}
+
+// The note at a place of an input that 1 to 14 do not turn back; 16 where scratch is short of its need.
+fn note_accepted(input: Input<'_>, place: usize, scratch: &mut [u64]) -> StayNote
+    ensures { StayNoted input.entry.set.now input.entry.plan.now place scratch.old scratch.new result }
+{
+    if scratch.len() < input.need {
+        clear(scratch);
+        return StayNote::Refused(16);
+    }
+    let note = note_at(input, place, scratch);
+    clear(scratch);
+    match note {
+        None => StayNote::None,
+        Some(position) => StayNote::Position(position),
     }
 }
 
@@ -50,20 +57,8 @@ fn note_at(set: &[u8], plan: &[u8], tables: usize, place: usize, scratch: &mut [
 pub fn stay_note(set: &[u8], plan: &[u8], place: usize, scratch: &mut [u64]) -> StayNote
     ensures { StayNoted set.now plan.now place scratch.old scratch.new result }
 {
-    match check_input(set, plan) {
-        Checked::Refused(number) => StayNote::Refused(number),
-        Checked::Accepted {
-            tables,
-            nodes: _,
-            need,
-        } => {
-            if scratch.len() < need {
-                clear(scratch);
-                return StayNote::Refused(16);
-            }
-            let note = note_at(set, plan, tables, place, scratch);
-            clear(scratch);
-            note
-        }
+    match Input::check(set, plan) {
+        Err(refusal) => StayNote::Refused(u8::from(refusal)),
+        Ok(input) => note_accepted(input, place, scratch),
     }
 }

@@ -1,15 +1,10 @@
 // The unnesting call.
-ghost use Rattle.std.specs.Prelude.{◌≡◌, length};
-ghost use Rattle.algebra.specs.Refusals.{need};
-ghost use Rattle.reading.specs.TableSet.{read_set, tables_of};
-ghost use Rattle.reading.specs.Tree.{plan_of};
-ghost use Rattle.reading.specs.Check.{input_refusal};
-ghost use Rattle.reading.specs.declared.set.SetRead.TheVariants.{Holds};
+ghost use Rattle.std.specs.Prelude.{◌≡◌};
 ghost use Rattle.unnesting.specs.Unnest.{Unnested as Answered};
 
 use crate::image::write_bytes;
+use crate::input::Input;
 use crate::run::run;
-use reading::input::{Checked, check_input};
 use reporting::output::clear;
 
 // What the unnesting call gives: the refusal's number, 0 for none, how many steps there are, and how many bytes the last plan takes.
@@ -30,36 +25,23 @@ fn refused(number: u8) -> Unnested
     }
 }
 
-// Unnests an input of so many tables that 1 to 14 do not turn back and that needs so many cells of scratch. 16 is tested before 15.
+// Unnests an input that 1 to 14 do not turn back. 16 is tested before 15.
 fn unnest_accepted(
-    set: &[u8],
-    plan: &[u8],
-    tables: usize,
-    cells: usize,
+    input: Input<'_>,
     out_plan: &mut [u8],
     out_steps: &mut [u8],
     scratch: &mut [u64],
 ) -> Unnested
-    requires { (input_refusal set.now plan.now ≡ 0) × (cells ≡ need (tables_of set.now) (plan_of plan.now)) × (read_set set.now ≡ Holds tables) }
-    ensures { Answered set.now plan.now out_plan.old out_plan.new out_steps.old out_steps.new scratch.old scratch.new result.refusal result.steps result.bytes }
+    ensures { Answered input.entry.set.now input.entry.plan.now out_plan.old out_plan.new out_steps.old out_steps.new scratch.old scratch.new result.refusal result.steps result.bytes }
 {
     let mut current = [0u8; 2086];
     let mut next = [0u8; 2086];
     let mut steps = [0u8; 384];
-    let ran = run(
-        set,
-        plan,
-        tables,
-        cells,
-        &mut current,
-        &mut next,
-        &mut steps,
-        scratch,
-    );
+    let ended = run(input, &mut current, &mut next, &mut steps, scratch);
     clear(scratch);
-    if !ran.enough {
+    let Some(ran) = ended else {
         return refused(16);
-    }
+    };
     let bytes = ran.length;
     let count = ran.steps;
     if out_plan.len() < bytes {
@@ -87,12 +69,8 @@ pub fn unnest(
 ) -> Unnested
     ensures { Answered set.now plan.now out_plan.old out_plan.new out_steps.old out_steps.new scratch.old scratch.new result.refusal result.steps result.bytes }
 {
-    match check_input(set, plan) {
-        Checked::Refused(number) => refused(number),
-        Checked::Accepted {
-            tables,
-            nodes: _,
-            need,
-        } => unnest_accepted(set, plan, tables, need, out_plan, out_steps, scratch),
+    match Input::check(set, plan) {
+        Err(refusal) => refused(u8::from(refusal)),
+        Ok(input) => unnest_accepted(input, out_plan, out_steps, scratch),
     }
 }

@@ -1,24 +1,18 @@
 use Prim.Native.Nat.{◌≤◌}
-use mathlib.Core.Path.{refl}
 use native.Mathlib.Omega.{arith}
+use Rattle.std.specs.Prelude.{Ok}
 use Rattle.reporting.proofs.Reports.{reported-few}
 use Rattle.cabi.proofs.club_report.Goals as goal
-use Rattle.cabi.proofs.club_report.Goals.{After-struct_known-1}
+use Rattle.cabi.proofs.club_report.Goals.{In-Ok}
 
-few : (c : After-struct_known-1) → (c.report-answer.result.rows ≤ 4096) × (c.report-answer.result.columns ≤ 32)
-few c = reported-few _ _ _ _ _ _ _ c.report-answer.ensures
+few : (c : In-Ok) → (c.in-Ok.answer.rows ≤ 4096) × (c.in-Ok.answer.columns ≤ 32)
+few c = reported-few _ _ _ _ _ _ (Ok c.in-Ok.answer) (rw c.in-Ok.is at c.report.ensures)
 
 pub overflow_mul-result : goal.overflow_mul-result
-overflow_mul-result c = omega (arith, (few (goal.at.overflow_mul-result c).After-struct_known-1).0, (few (goal.at.overflow_mul-result c).After-struct_known-1).1)
+overflow_mul-result c = omega (arith, (few (goal.at.overflow_mul-result c).In-Ok).0, (few (goal.at.overflow_mul-result c).In-Ok).1)
+
+pub overflow_mul-result-in-Ok : goal.overflow_mul-result-in-Ok
+overflow_mul-result-in-Ok c = omega (arith, (few (goal.at.overflow_mul-result-in-Ok c).In-Ok).0, (few (goal.at.overflow_mul-result-in-Ok c).In-Ok).1)
 
 pub overflow_add-result : goal.overflow_add-result
-overflow_add-result c = omega (arith, (few (goal.at.overflow_add-result c).After-struct_known-1).0, (few (goal.at.overflow_add-result c).After-struct_known-1).1)
-
-pub overflow_mul-result-2 : goal.overflow_mul-result-2
-overflow_mul-result-2 c = omega (arith, (few (goal.at.overflow_mul-result-2 c).After-struct_known-1).0, (few (goal.at.overflow_mul-result-2 c).After-struct_known-1).1)
-
-pub overflow_add-result-2 : goal.overflow_add-result-2
-overflow_add-result-2 c = omega (arith, (few (goal.at.overflow_add-result-2 c).After-struct_known-1).0, (few (goal.at.overflow_add-result-2 c).After-struct_known-1).1)
-
-pub returns : goal.returns
-returns c = record { answer = c.report-answer.result; reported = c.report-answer.ensures; encoded = refl }
+overflow_add-result c = omega (arith, (few (goal.at.overflow_add-result c).In-Ok).0, (few (goal.at.overflow_add-result c).In-Ok).1)

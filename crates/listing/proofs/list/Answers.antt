@@ -7,4 +7,4 @@ pub show_steps-requires : goal.show_steps-requires
 show_steps-requires g c = omega (arith, steps-room c.unnest-unnested.ensures c.if-turned_back-ne0.false, c.unnest-unnested.auto.out_steps)
 
 pub show_report-requires : goal.show_report-requires
-show_report-requires g c = omega (arith, report-room c.report-answer.ensures c.if-refusal-ne0.false, c.report-answer.auto.out)
+show_report-requires g c = omega (arith, report-room c.report.ensures c.in-Ok.is, c.report.auto.out)

@@ -1,22 +1,24 @@
 use mathlib.Core.Path.{sym, ap, ◌∙◌}
-use Rattle.reading.specs.declared.plan.PlanRead.TheVariants.{Nodes}
-use Rattle.reading.proofs.Acceptance.{plan-count, accepted-as}
-use Rattle.conversion.proofs.Outcomes.{accepted-input, turned-input}
+use Rattle.std.specs.Prelude.{Ok}
+use Rattle.std.proofs.lemmas.Result.{err_from_is_err_and}
+use Rattle.reading.proofs.Acceptance.{plan-count, accepted-as, number-accepted}
+use Rattle.conversion.proofs.Outcomes.{turned-input}
 use Rattle.conversion.proofs.convert.convert.Goals as goal
 
 pub convert_accepted-requires : goal.convert_accepted-requires
 convert_accepted-requires c =
     let a = c.args in
-    let e = sym c.check_as.ensures ∙ c.in-Accepted.is in
-    let w = accepted-as a.from a.set.now a.plan.now _ _ _ e in
+    let e = sym c.in_ok-accepted.ensures in
+    let w = accepted-as a.from a.set.now a.plan.now _ e in
     record {
-      accepted = accepted-input a.from a.set.now a.plan.now _ _ _ e;
+      accepted = number-accepted a.from a.set.now a.plan.now _ e;
       set_read = w.set_read;
-      plan_read = w.plan_read ∙ sym (ap Nodes (plan-count a.from a.plan.now _ w.plan_read));
+      plan_read = w.plan_read ∙ sym (ap Ok (plan-count a.from a.plan.now _ w.plan_read));
       whole = w.whole;
     }
 
-pub returns-in-Refused : goal.returns-in-Refused
-returns-in-Refused c =
+pub returns-in_err-accepted : goal.returns-in_err-accepted
+returns-in_err-accepted c =
     let a = c.args in
-    turned-input a.from a.to a.set.now a.plan.now a.out_set.now a.out_plan.now _ _ (sym c.check_as.ensures ∙ c.in-Refused.is) c.refused.ensures
+    let p = err_from_is_err_and c.from_residual.result c.from_residual.ensures.1 in
+    rw (p.1, p.2) (turned-input a.from a.to a.set.now a.plan.now a.out_set.now a.out_plan.now _ (sym c.in_err-accepted.ensures))

@@ -1,36 +1,18 @@
 use native.Mathlib.Omega.{arith}
 use mathlib.Core.Path.{◌≡◌, ap, ap₂, ◌∙◌}
 use Prim.Native.Nat.{ℕ, ◌+◌, ◌*◌, ◌-◌}
-use lib.ListN.{take, drop, length-take}
+use lib.ListN.{take, drop}
 use Rattle.reading.specs.Versions.{node_size}
 use Rattle.reading.specs.Plan.{plan_version}
 use Rattle.reading.specs.declared.plan.Node.{Node}
 use Rattle.reading.proofs.VersionLaws.{node_least}
-use Rattle.conversion.specs.Helpers.{test_fits, test_tail}
+use Rattle.conversion.specs.Helpers.{test_tail}
 use Rattle.conversion.proofs.NodeBytes.{node_written}
 use Rattle.conversion.proofs.plans.write_node.Goals as goal
 use Rattle.conversion.proofs.plans.write_node.Goals.{After-node_size}
 
 start_is : (c : After-node_size) → c.node_size.result * c.args.i ≡ node_size (plan_version c.args.plan.now) * c.args.i
 start_is c = ap (λ (z : ℕ). z * c.args.i) (c.node_size.ensures.value ∙ ap node_size c.version_at.ensures)
-
-pub overflow_mul-start : goal.overflow_mul-start
-overflow_mul-start c = omega (arith, start_is ((goal.at.overflow_mul-start c).After-node_size), c.requires.0, node_least (plan_version c.args.plan.now))
-
-pub overflow_add-start : goal.overflow_add-start
-overflow_add-start c = omega (arith, start_is ((goal.at.overflow_add-start c).After-node_size), c.requires.0, node_least (plan_version c.args.plan.now))
-
-pub overflow_add-end : goal.overflow_add-end
-overflow_add-end c = omega (arith, start_is ((goal.at.overflow_add-end c).After-node_size), c.requires.0, node_least (plan_version c.args.plan.now))
-
-pub slice_bounds-write_bytes-end : goal.slice_bounds-write_bytes-end
-slice_bounds-write_bytes-end c = omega (arith, start_is (goal.at.slice_bounds-write_bytes-end c).After-node_size, c.requires.0, node_least (plan_version c.args.plan.now))
-
-pub write_bytes-requires : goal.write_bytes-requires
-write_bytes-requires c = simp length-take (omega (arith, c.requires.2, node_least c.args.version))
-
-pub test_tail-tail-requires : goal.test_tail-tail-requires
-test_tail-tail-requires c = ap (λ (m : Node). test_fits c.args.version m.test) c.node_at-test.ensures ∙ c.requires.1
 
 pub returns : goal.returns
 returns c =

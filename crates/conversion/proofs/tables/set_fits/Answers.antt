@@ -1,4 +1,3 @@
-use borrow.Author.Count.{below_none, below_more}
 use Prim.Native.Nat.{ℕ}
 use native.Mathlib.Omega.{arith}
 use mathlib.Core.Path.{◌≡◌, sym, ap, ◌∙◌}
@@ -14,22 +13,14 @@ use Rattle.conversion.proofs.tables.set_fits.Goals.{After-table_fits}
 tested : (c : After-table_fits) → c.table_fits.result ≡ all (cell_allowed c.args.version) (table_words (table_from c.loop-t.t c.args.set.now))
 tested c = c.table_fits.ensures ∙ ap (λ (s : List ℕ). all (cell_allowed c.args.version) (table_words s)) c.table_from.ensures
 
-pub loop-t-init : goal.loop-t-init
-loop-t-init c = (omega arith, below_none _)
-
 pub returns-then-not-table_fits : goal.returns-then-not-table_fits
 returns-then-not-table_fits c =
     let a = c.args in
     let l = c.loop-t in
     sym (set_all a.version a.set.now a.tables ∙ all-fails _ _ l.t (omega arith) (sym (tested (goal.at.returns-then-not-table_fits c).After-table_fits) ∙ c.if-not-table_fits.true))
 
-pub loop-t-preserved : goal.loop-t-preserved
-loop-t-preserved c =
-    let l = c.loop-t in
-    (omega arith, below_more _ _ l.invariant.1 (sym (tested (goal.at.loop-t-preserved c).After-table_fits) ∙ c.if-not-table_fits.false))
-
 pub returns : goal.returns
 returns c =
     let a = c.args in
     let l = c.loop-t in
-    sym (set_all a.version a.set.now a.tables ∙ all-holds _ _ (λ k h. l.invariant.1 k (omega arith)))
+    sym (set_all a.version a.set.now a.tables ∙ all-holds _ _ (λ k h. l.invariant k (omega arith)))

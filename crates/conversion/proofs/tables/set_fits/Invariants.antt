@@ -1,4 +1,4 @@
-use Prim.Native.Nat.{ℕ, ◌-◌, ◌≤◌, ◌<◌}
+use Prim.Native.Nat.{ℕ, ◌<◌}
 use mathlib.Core.Path.{◌≡◌}
 use mathlib.Core.Bool.{true}
 use Rattle.algebra.specs.Lists.{all}
@@ -7,7 +7,4 @@ use Rattle.conversion.specs.Bytes.{table_words}
 use Rattle.conversion.proofs.tables.set_fits.Given as goal
 
 abbrev pub invariant-loop-t : goal.invariant-loop-t
-invariant-loop-t l = (l.t ≤ l.tables) × ((k : ℕ) → k < l.t → all (cell_allowed l.version) (table_words (table_from k l.set)) ≡ true)
-
-abbrev pub decreases-loop-t : goal.decreases-loop-t
-decreases-loop-t l = l.tables - l.t
+invariant-loop-t l = (k : ℕ) → k < l.t → all (cell_allowed l.version) (table_words (table_from k l.set)) ≡ true

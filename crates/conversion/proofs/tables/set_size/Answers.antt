@@ -9,19 +9,7 @@ use Rattle.conversion.proofs.TableBytes.{set-none, set_more}
 use Rattle.conversion.proofs.tables.set_size.Goals as goal
 
 pub loop-t-init : goal.loop-t-init
-loop-t-init c = (omega arith, omega arith, sym (ap length (set-none c.args.version c.args.set.now)))
-
-pub table_size-size-requires : goal.table_size-size-requires
-table_size-size-requires c = rw c.table_from.ensures (c.requires.1.long c.loop-t.t (omega arith))
-
-pub overflow_add-size : goal.overflow_add-size
-overflow_add-size c = omega (arith, c.requires.0, c.table_size-size.ensures.1)
-
-pub overflow_add-t : goal.overflow_add-t
-overflow_add-t c = omega (arith, c.requires.0, c.table_size-size.ensures.1)
-
-pub loop-t-smaller : goal.loop-t-smaller
-loop-t-smaller c = omega (arith, c.requires.0, c.table_size-size.ensures.1)
+loop-t-init c = (omega arith, sym (ap length (set-none c.args.version c.args.set.now)))
 
 pub loop-t-preserved : goal.loop-t-preserved
 loop-t-preserved c =
@@ -29,11 +17,11 @@ loop-t-preserved c =
     let l = c.loop-t in
     let e = ap length (set_more a.version a.set.now l.t) ∙ length-append (set_bytes a.version l.t a.set.now) (table_bytes a.version (table_from l.t a.set.now)) in
     let z = c.table_size-size.ensures.0 ∙ ap (λ (s : List ℕ). length (table_bytes a.version s)) c.table_from.ensures in
-    (omega arith, omega (arith, c.table_size-size.ensures.1), omega (arith, e, z))
+    (omega (arith, c.table_size-size.ensures.1), omega (arith, e, z))
 
 pub returns : goal.returns
 returns c =
     let a = c.args in
     let l = c.loop-t in
     let q : l.t ≡ a.tables = omega arith in
-    l.invariant.2 ∙ ap (λ (k : ℕ). length (set_bytes a.version k a.set.now)) q
+    l.invariant.1 ∙ ap (λ (k : ℕ). length (set_bytes a.version k a.set.now)) q

@@ -1,12 +1,9 @@
-use Prim.Native.Nat.{ℕ, ◌*◌, ◌-◌, ◌≤◌, ◌<◌}
+use Prim.Native.Nat.{ℕ, ◌<◌}
 use mathlib.Core.Path.{◌≡◌}
 use mathlib.Core.Bool.{true}
-use Rattle.reading.specs.TableSet.{columns_of, rows_of, cell_allowed}
+use Rattle.reading.specs.TableSet.{cell_allowed}
 use Rattle.conversion.proofs.TableBytes.{word_in}
 use Rattle.conversion.proofs.tables.table_fits.Given as goal
 
 abbrev pub invariant-loop-i : goal.invariant-loop-i
-invariant-loop-i l = (l.n ≡ columns_of l.table * rows_of l.table) × (l.i ≤ l.n) × ((k : ℕ) → k < l.i → cell_allowed l.version (word_in l.table k) ≡ true)
-
-abbrev pub decreases-loop-i : goal.decreases-loop-i
-decreases-loop-i l = l.n - l.i
+invariant-loop-i l = (k : ℕ) → k < l.i → cell_allowed l.version (word_in l.table k) ≡ true

@@ -5,21 +5,6 @@ use mathlib.Core.Path.{sym, ap₂, ◌∙◌}
 use Rattle.conversion.proofs.TableBytes.{table-long}
 use Rattle.conversion.proofs.tables.table_size.Goals as goal
 
-pub overflow_mul-result : goal.overflow_mul-result
-overflow_mul-result c = let m = mul-le-mul c.columns_of.ensures.upper_bound c.rows_of.ensures.upper_bound in omega arith
-
-pub overflow_mul-result-2 : goal.overflow_mul-result-2
-overflow_mul-result-2 c =
-    let m = mul-le-mul c.columns_of.ensures.upper_bound c.rows_of.ensures.upper_bound in
-    let n = mul-le-mul c.cell_size-size.ensures.upper_bound m in
-    omega arith
-
-pub overflow_add-result : goal.overflow_add-result
-overflow_add-result c =
-    let m = mul-le-mul c.columns_of.ensures.upper_bound c.rows_of.ensures.upper_bound in
-    let n = mul-le-mul c.cell_size-size.ensures.upper_bound m in
-    omega arith
-
 pub returns : goal.returns
 returns c =
     let a = c.args in

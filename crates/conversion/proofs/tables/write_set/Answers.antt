@@ -1,6 +1,6 @@
 use Prim.Native.Nat.{ℕ}
 use native.Mathlib.Omega.{arith}
-use mathlib.Core.Path.{◌≡◌, refl, sym, ap, ap₂, ◌∙◌}
+use mathlib.Core.Path.{◌≡◌, sym, ap, ap₂, ◌∙◌}
 use mathlib.Core.List.{List}
 use lib.ListN.{length, length-append}
 use Rattle.reading.specs.TableSet.{table_from}
@@ -18,7 +18,7 @@ pub loop-t-init : goal.loop-t-init
 loop-t-init c =
     let a = c.args in
     let e = set-none a.version a.set.now in
-    (omega arith, sym (ap length e), refl, written_none a.out.now 0 ∙ sym (ap (bytes_written a.out.now 0) e))
+    (sym (ap length e), written_none a.out.now 0 ∙ sym (ap (bytes_written a.out.now 0) e))
 
 pub write_table-requires : goal.write_table-requires
 write_table-requires c =
@@ -32,42 +32,12 @@ write_table-requires c =
 pub table_size-at-requires : goal.table_size-at-requires
 table_size-at-requires c = rw c.table_from-table.ensures (c.requires.0.long c.loop-t.t (omega arith))
 
-pub overflow_add-at : goal.overflow_add-at
-overflow_add-at c =
-    let a = c.args in
-    let l = c.loop-t in
-    omega (arith, size_is (goal.at.overflow_add-at c).After-table_from-table, c.table_size-at.ensures.0, set_room_lem a.version a.set.now l.t a.tables (omega arith), c.requires.2)
-
-pub overflow_add-t : goal.overflow_add-t
-overflow_add-t c =
-    let a = c.args in
-    let l = c.loop-t in
-    omega (arith, size_is (goal.at.overflow_add-t c).After-table_from-table, c.table_size-at.ensures.0, set_room_lem a.version a.set.now l.t a.tables (omega arith), c.requires.2)
-
-pub loop-t-smaller : goal.loop-t-smaller
-loop-t-smaller c =
-    let a = c.args in
-    let l = c.loop-t in
-    omega (arith, size_is (goal.at.loop-t-smaller c).After-table_from-table, c.table_size-at.ensures.0, set_room_lem a.version a.set.now l.t a.tables (omega arith), c.requires.2)
-
 pub loop-t-preserved : goal.loop-t-preserved
 loop-t-preserved c =
     let a = c.args in
     let l = c.loop-t in
     let e = ap length (set_more a.version a.set.now l.t) ∙ length-append (set_bytes a.version l.t a.set.now) (table_bytes a.version (table_from l.t a.set.now)) in (
-      omega arith,
       omega (arith, e, size_is (goal.at.loop-t-preserved c).After-table_from-table, c.table_size-at.ensures.0),
-      c.write_table.auto.out ∙ l.invariant.2,
-      c.write_table.ensures ∙ (ap₂ (λ (s r : List ℕ). bytes_written s l.at (table_bytes a.version r)) l.invariant.3 c.table_from-table.ensures
-          ∙ set-written a.version a.set.now a.out.now l.t l.at (omega (arith, set_room_lem a.version a.set.now l.t a.tables (omega arith), c.requires.2)) l.invariant.1),
+      c.write_table.ensures ∙ (ap₂ (λ (s r : List ℕ). bytes_written s l.at (table_bytes a.version r)) l.invariant.1 c.table_from-table.ensures
+          ∙ set-written a.version a.set.now a.out.now l.t l.at (omega (arith, set_room_lem a.version a.set.now l.t a.tables (omega arith), c.requires.2)) l.invariant.0),
     )
-
-pub shape_of-out : goal.shape_of-out
-shape_of-out c = c.loop-t.invariant.2
-
-pub returns : goal.returns
-returns c =
-    let a = c.args in
-    let l = c.loop-t in
-    let q : l.t ≡ a.tables = omega arith in
-    l.invariant.3 ∙ ap (λ (k : ℕ). bytes_written a.out.now 0 (set_bytes a.version k a.set.now)) q

@@ -1,4 +1,3 @@
-use Prim.Native.Nat.{◌-◌, ◌≤◌}
 use mathlib.Core.Path.{◌≡◌}
 use lib.ListN.{length}
 use Rattle.conversion.specs.Bytes.{set_bytes}
@@ -6,7 +5,4 @@ use Rattle.conversion.specs.Helpers.{bytes_written}
 use Rattle.conversion.proofs.tables.write_set.Given as goal
 
 abbrev pub invariant-loop-t : goal.invariant-loop-t
-invariant-loop-t l = (l.t ≤ l.tables) × (l.at ≡ length (set_bytes l.version l.t l.set)) × (length l.out ≡ length l.initial.out) × (l.out ≡ bytes_written l.initial.out 0 (set_bytes l.version l.t l.set))
-
-abbrev pub decreases-loop-t : goal.decreases-loop-t
-decreases-loop-t l = l.tables - l.t
+invariant-loop-t l = (l.at ≡ length (set_bytes l.version l.t l.set)) × (l.out ≡ bytes_written l.initial.out 0 (set_bytes l.version l.t l.set))

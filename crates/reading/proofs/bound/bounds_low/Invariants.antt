@@ -1,14 +1,10 @@
-use Prim.Native.Nat.{ℕ, ◌-◌, ◌≤◌, ◌<◌}
+use Prim.Native.Nat.{ℕ, ◌<◌}
 use mathlib.Core.Path.{◌≡◌}
 use mathlib.Core.Bool.{true}
 use Rattle.algebra.specs.Refusals.{low}
 use Rattle.reading.specs.TableSet.{tables_of}
-use Rattle.reading.specs.Plan.{nodes_of}
 use Rattle.reading.specs.Tree.{plan_at}
 use Rattle.reading.proofs.bound.bounds_low.Given as goal
 
 abbrev pub invariant-loop-i : goal.invariant-loop-i
-invariant-loop-i l = (l.i ≤ nodes_of l.plan) × ((k : ℕ) → k < l.i → low (tables_of l.set) (plan_at l.plan k) ≡ true)
-
-abbrev pub decreases-loop-i : goal.decreases-loop-i
-decreases-loop-i l = l.n - l.i
+invariant-loop-i l = (k : ℕ) → k < l.i → low (tables_of l.set) (plan_at l.plan k) ≡ true

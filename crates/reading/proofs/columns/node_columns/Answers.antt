@@ -1,57 +1,55 @@
+use Prim.Native.Nat.{◌+◌}
 use native.Mathlib.Omega.{arith}
-use mathlib.Core.Path.{◌≡◌}
-use mathlib.Core.Logic.{inl, inr}
+use mathlib.Core.Path.{◌≡◌, refl}
+use lib.ListN.{length}
+use Rattle.reading.specs.Tree.{operator_by, node_list}
+use Rattle.reading.specs.declared.kinds.Kind.{Kind}
+use Rattle.reading.proofs.Operators.{just, one_of, just_other}
 use Rattle.reading.proofs.TreeNumbers.{within_cap}
-use Rattle.reading.proofs.ColumnLaws.{scan-width, list-width, both-width, more-width, group-width, first_width, left-width, none-width, above-width}
+use Rattle.reading.proofs.ColumnLaws.{width_by, scan-width}
 use Rattle.reading.proofs.columns.node_columns.Goals as goal
 
-pub returns-in-1 : goal.returns-in-1
-returns-in-1 c =
+pub returns-in-Scan : goal.returns-in-Scan
+returns-in-Scan c =
     let a = c.args in
-    rw (scan-width a.set.now a.node a.first a.second c.in-1.is, ← c.table_from.ensures, ← c.columns_of.ensures.value) c.capped.ensures
+    rw (scan-width a.set.now a.node a.first a.second c.in-Scan.is, ← c.table_from.ensures, ← c.columns_of.ensures.value) c.capped.ensures
 
-pub returns-in-5 : goal.returns-in-5
-returns-in-5 c =
+pub returns-in-Project : goal.returns-in-Project
+unfolding operator_by
+returns-in-Project c =
     let a = c.args in
-    rw (both-width a.set.now a.node a.first a.second c.in-5.is) c.capped-in-5.ensures
-
-pub returns-in-10 : goal.returns-in-10
-returns-in-10 c =
-    let a = c.args in
-    rw (more-width a.set.now a.node a.first a.second c.in-10.is) c.capped-in-10.ensures
-
-pub returns-in-13 : goal.returns-in-13
-returns-in-13 c =
-    let a = c.args in
-    rw (group-width a.set.now a.node a.first a.second c.in-13.is)
-
-pub returns-in-3 : goal.returns-in-3
-returns-in-3 c =
-    let a = c.args in
-    let h = c.in-3.in_default-own.rest in
+    let P : Kind → Type 0 = λ k. width_by a.set.now a.node a.first a.second k ≡ length (node_list a.node) in
     let e = c.list_length.ensures in
-    rw (list-width a.set.now a.node a.first a.second (omega arith) (omega arith) h.0.0.0.0.1 (λ z. h.1 (inl z)), ← e.1)
-    (within_cap c.list_length.result 33 (omega arith))
+    rw (one_of P refl (just P refl) c.in-Project.is, ← e.1) (within_cap c.list_length.result 33 (omega arith))
 
-pub returns-in_default : goal.returns-in_default
-returns-in_default c =
+pub returns-in-Cross : goal.returns-in-Cross
+unfolding operator_by
+returns-in-Cross c =
     let a = c.args in
-    let k : a.node.kind ≡ 0 = omega arith in
-    rw (none-width a.set.now a.node a.first a.second k)
+    let P : Kind → Type 0 = λ k. width_by a.set.now a.node a.first a.second k ≡ a.first + a.second in
+    rw (one_of P refl (just P refl) c.in-Cross.is) c.capped-in-Cross.ensures
 
-pub returns-in_default-2 : goal.returns-in_default-2
-returns-in_default-2 c =
+pub returns-in-Fold : goal.returns-in-Fold
+unfolding operator_by
+returns-in-Fold c =
     let a = c.args in
-    let h = c.in_default.in_default-own.rest in
-    rw (above-width a.set.now a.node a.first a.second (omega arith) (λ z. h.0.0.1 (inl z)) (λ z. h.0.0.0.1 (inr z)) (λ z. h.0.0.1 (inr z)) h.0.1 (λ z. h.1 (inr z)))
+    let P : Kind → Type 0 = λ k. width_by a.set.now a.node a.first a.second k ≡ a.first + 1 in
+    rw (one_of P refl (just P refl) c.in-Fold.is) c.capped-in-Fold.ensures
 
-pub returns-in-2 : goal.returns-in-2
-returns-in-2 c =
-    let a = c.args in
-    rw (first_width a.set.now a.node a.first a.second c.in-2.is) (within_cap a.first 33 c.requires.0)
+pub returns-in-Group : goal.returns-in-Group
+unfolding operator_by
+returns-in-Group c = rw c.in-Group.is
 
-pub returns-in-2-2 : goal.returns-in-2-2
-returns-in-2-2 c =
+pub returns-in-Select : goal.returns-in-Select
+unfolding operator_by
+returns-in-Select c =
     let a = c.args in
-    let h = c.in-2.in_default-own.rest in
-    rw (left-width a.set.now a.node a.first a.second (omega arith) (omega arith) (λ z. h.0.0.0.1 (inl z))) (within_cap a.first 33 c.requires.0)
+    let P : Kind → Type 0 = λ k. width_by a.set.now a.node a.first a.second k ≡ a.first in
+    rw (one_of P refl (one_of P refl (one_of P refl (one_of P refl (one_of P refl (just P refl))))) c.in-Select.is) (within_cap a.first 33 c.requires.0)
+
+pub returns-in-Unit : goal.returns-in-Unit
+unfolding operator_by
+returns-in-Unit c =
+    let a = c.args in
+    let P : Kind → Type 0 = λ k. width_by a.set.now a.node a.first a.second k ≡ 0 in
+    rw (one_of P refl (just_other P (λ b. refl)) c.in-Unit.is)

@@ -1,4 +1,4 @@
-use Prim.Native.Nat.{ℕ, ◌-◌, ◌≤◌}
+use Prim.Native.Nat.{ℕ}
 use mathlib.Core.Path.{◌≡◌}
 use mathlib.Core.Bool.{true}
 use mathlib.Core.List.{List, ◌++◌}
@@ -9,7 +9,4 @@ use Rattle.reading.specs.Flags.{Flags}
 use Rattle.reading.proofs.flags.mark_ids.Given as goal
 
 abbrev pub invariant-loop-k : goal.invariant-loop-k
-invariant-loop-k l = (l.k ≤ l.count) × (length l.marks ≡ 256) × ((ids : List ℕ) → Flags l.initial.marks ids → once ids ≡ true → (once (ids ++ upward l.k l.first) ≡ true) × Flags l.marks (ids ++ upward l.k l.first))
-
-abbrev pub decreases-loop-k : goal.decreases-loop-k
-decreases-loop-k l = l.count - l.k
+invariant-loop-k l = (length l.marks ≡ 256) × ((ids : List ℕ) → Flags l.initial.marks ids → once ids ≡ true → (once (ids ++ upward l.k l.first) ≡ true) × Flags l.marks (ids ++ upward l.k l.first))

@@ -1,4 +1,4 @@
-use Prim.Native.Nat.{ℕ, ◌-◌, ◌≤◌, ◌<◌}
+use Prim.Native.Nat.{ℕ, ◌<◌}
 use mathlib.Core.Path.{◌≡◌}
 use mathlib.Core.Bool.{false, ◌&&◌}
 use lib.Dec.{eqb}
@@ -6,7 +6,4 @@ use lib.ListN.{get_or}
 use Rattle.reading.proofs.free.apart.Given as goal
 
 abbrev pub invariant-loop-k : goal.invariant-loop-k
-invariant-loop-k l = (l.k ≤ 256) × ((j : ℕ) → j < l.k → (eqb (get_or l.flags j 0) 1 && eqb (get_or l.other j 0) 1) ≡ false)
-
-abbrev pub decreases-loop-k : goal.decreases-loop-k
-decreases-loop-k l = 256 - l.k
+invariant-loop-k l = (j : ℕ) → j < l.k → (eqb (get_or l.flags j 0) 1 && eqb (get_or l.other j 0) 1) ≡ false

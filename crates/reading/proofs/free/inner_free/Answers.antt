@@ -1,12 +1,13 @@
-use native.Mathlib.Omega.{arith}
-use Rattle.reading.proofs.FreeLaws.{flags_minus, nested-low, nested-high, nested_middle}
+use Rattle.reading.proofs.FreeLaws.{flags_minus, is-nested, not-nested}
 use Rattle.reading.proofs.free.inner_free.Goals as goal
 
-pub returns-then-kind-lt8 : goal.returns-then-kind-lt8
-returns-then-kind-lt8 c = record { gives = λ gs xs f g. rw (nested-low c.args.node c.args.node.kind (omega arith)) f }
+pub returns-in-Some : goal.returns-in-Some
+returns-in-Some c =
+    let n = c.args.node in
+    record { gives = λ gs xs f g. rw (is-nested n n.kind c.in-Some.is) (flags_minus f g c.set_where.ensures) }
 
-pub returns-then-kind-gt11 : goal.returns-then-kind-gt11
-returns-then-kind-gt11 c = record { gives = λ gs xs f g. rw (nested-high c.args.node c.args.node.kind (omega arith)) f }
-
-pub returns : goal.returns
-returns c = record { gives = λ gs xs f g. rw (nested_middle c.args.node c.args.node.kind (omega arith) (omega arith)) (flags_minus f g c.set_where.ensures) }
+pub returns-in_default : goal.returns-in_default
+returns-in_default c =
+    let n = c.args.node in
+    let d = c.in_default in
+    record { gives = λ gs xs f g. rw (not-nested n n.kind d.not-Some d.not-Every d.not-Fold d.not-Each) f }

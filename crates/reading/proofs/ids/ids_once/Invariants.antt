@@ -1,4 +1,3 @@
-use Prim.Native.Nat.{◌-◌, ◌≤◌}
 use mathlib.Core.Path.{◌≡◌}
 use mathlib.Core.Bool.{true}
 use lib.ListN.{length}
@@ -9,7 +8,4 @@ use Rattle.reading.specs.Nodes.{ids_of}
 use Rattle.reading.proofs.ids.ids_once.Given as goal
 
 abbrev pub invariant-loop-i : goal.invariant-loop-i
-invariant-loop-i l = (l.i ≤ l.n) × (length l.flags ≡ 256) × (once (ids_of (tables_of l.set) l.plan l.i 0) ≡ true) × Flags l.flags (ids_of (tables_of l.set) l.plan l.i 0)
-
-abbrev pub decreases-loop-i : goal.decreases-loop-i
-decreases-loop-i l = l.n - l.i
+invariant-loop-i l = (length l.flags ≡ 256) × (once (ids_of (tables_of l.set) l.plan l.i 0) ≡ true) × Flags l.flags (ids_of (tables_of l.set) l.plan l.i 0)

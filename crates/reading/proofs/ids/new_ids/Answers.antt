@@ -1,28 +1,29 @@
 use native.Mathlib.Omega.{arith}
-use borrow.Author.Tests.{ne_eqb}
+use mathlib.Core.Path.{◌≡◌, refl}
+use mathlib.Core.List.{◌++◌}
+use Rattle.algebra.specs.Lists.{upward}
 use Rattle.reading.specs.TableSet.{tables_of}
 use Rattle.reading.specs.Tree.{operator_by}
+use Rattle.reading.specs.Nodes.{operator_new, key_of}
+use Rattle.reading.specs.declared.kinds.Kind.{Kind}
+use Rattle.reading.proofs.Operators.{just, one_of}
 use Rattle.reading.proofs.IdLaws.{new_none}
 use Rattle.reading.proofs.ids.new_ids.Goals as goal
 
-pub returns-then-kind-eq1 : goal.returns-then-kind-eq1
+pub returns-in-Scan : goal.returns-in-Scan
 unfolding operator_by
-returns-then-kind-eq1 c =
-    (rw (c.if-kind-eq1.true, ← c.table_from.ensures, ← c.columns_of.ensures.value), c.columns_of.ensures.upper_bound)
+returns-in-Scan c =
+    (rw (c.in-Scan.is, ← c.table_from.ensures, ← c.columns_of.ensures.value), c.columns_of.ensures.upper_bound)
 
-pub returns-then-kind-eq10 : goal.returns-then-kind-eq10
+pub returns-in-Fold : goal.returns-in-Fold
 unfolding operator_by
-returns-then-kind-eq10 c = (rw c.if-kind-eq10.true, omega arith)
+returns-in-Fold c =
+    let n = c.args.node in
+    let P : Kind → Type 0 = λ k. operator_new (tables_of c.args.set.now) (operator_by k n) ≡ key_of k n ++ upward 1 n.id in
+    (one_of P refl (one_of P refl (just P refl)) c.in-Fold.is, omega arith)
 
-pub returns-then-kind-eq12 : goal.returns-then-kind-eq12
-unfolding operator_by
-returns-then-kind-eq12 c = (rw c.if-kind-eq12.true, omega arith)
-
-pub returns-then-kind-eq13 : goal.returns-then-kind-eq13
-unfolding operator_by
-returns-then-kind-eq13 c = (rw c.if-kind-eq13.true, omega arith)
-
-pub returns : goal.returns
-returns c =
-    let a = c.args in
-    (rw (new_none (tables_of a.set.now) a.node a.node.kind c.if-kind-eq1.false c.if-kind-eq10.false c.if-kind-eq12.false c.if-kind-eq13.false, ne_eqb _ 13 c.if-kind-eq13.false), omega arith)
+pub returns-in_default : goal.returns-in_default
+returns-in_default c =
+    let n = c.args.node in
+    let d = c.in_default in
+    (new_none (tables_of c.args.set.now) n n.kind d.not-Scan d.not-Fold d.not-Pair d.not-Group, omega arith)

@@ -1,3 +1,4 @@
+use Rattle.std.specs.Prelude.{ℕ, Ok}
 use mathlib.Core.Path.{◌≡◌, refl, sym, ap, ◌∙◌}
 use mathlib.Core.Bool.{true}
 use mathlib.Core.List.{[]}
@@ -7,7 +8,6 @@ use Rattle.reading.specs.TableSet.{known_tables, tables_of}
 use Rattle.reading.specs.Plan.{nodes_of}
 use Rattle.reading.specs.Tree.{operator_at, plan_at, plan_of, whole_tree}
 use Rattle.reading.specs.Nodes.{ids_of}
-use Rattle.reading.specs.declared.input.Checked.TheVariants.{Accepted}
 use Rattle.reading.proofs.FlagLaws.{flags_none}
 use Rattle.reading.proofs.Places.{whole-all}
 use Rattle.reading.proofs.Acceptance.{check_tree, check_11, check_12_once, check_12_view, check_13, check_14, check-passed}
@@ -77,5 +77,5 @@ need_of-requires c =
 pub returns : goal.returns
 returns c =
     let a = c.args in
-    ap (Accepted a.tables a.nodes) c.need_of.ensures
+    ap (λ (cells : ℕ). Ok (record { tables = a.tables; nodes = a.nodes; need = cells })) c.need_of.ensures
     ∙ sym (check-passed a.version a.set.now a.plan.now a.tables a.nodes c.requires (whole (goal.at.returns c).Else-not-whole_tree) (found_all (goal.at.returns c).Else-not-tables_found) (once-all (goal.at.returns c).Else-not-ids_once) (seen_all (goal.at.returns c).Else-not-tree_seen) (narrow-all (goal.at.returns c).Else-not-rows_narrow) (low-all (goal.at.returns c).Else-not-bounds_low))

@@ -1,16 +1,19 @@
-use Prim.Native.Nat.{ℕ, ◌+◌, ◌*◌, ◌≤◌}
-use native.Mathlib.Omega.{arith}
-use native.Mathlib.Nat.{add-zero}
-use lib.ListN.{length, get_or-eq_default}
-use Rattle.reading.specs.Bytes.{byte_at}
-use Rattle.reading.specs.Plan.{kind_table}
-use mathlib.Core.Path.{sym, ap}
+use Prim.Native.Nat.{ℕ}
+use mathlib.Core.Path.{◌≡◌, refl}
+use Rattle.reading.specs.declared.kinds.Kind.{Kind}
+use Rattle.reading.specs.Plan.{kind_entry, kind_row}
+use Rattle.reading.proofs.Operators.{just, one_of}
 use Rattle.reading.proofs.kinds.children_of.Goals as goal
 
-pub returns-then-at-lt150 : goal.returns-then-at-lt150
-returns-then-at-lt150 c = ap (λ (k : ℕ). byte_at kind_table k) (sym (add-zero (10 * c.args.kind)))
+abbrev Has : ℕ → Kind → Type 0
+Has n kind = n ≡ kind_entry (kind_row kind) 0
 
-pub returns-else-at-lt150 : goal.returns-else-at-lt150
-returns-else-at-lt150 c =
-    let h : length kind_table ≤ 10 * c.args.kind + 0 = omega arith in
-    sym (get_or-eq_default kind_table 0 h)
+pub returns-in-Select : goal.returns-in-Select
+returns-in-Select c =
+    let P = Has 1 in
+    one_of P refl (one_of P refl (one_of P refl (one_of P refl (just P refl)))) c.in-Select.is
+
+pub returns-in-Cross : goal.returns-in-Cross
+returns-in-Cross c =
+    let P = Has 2 in
+    one_of P refl (one_of P refl (one_of P refl (one_of P refl (one_of P refl (one_of P refl (one_of P refl (just P refl))))))) c.in-Cross.is

@@ -1,12 +1,9 @@
-use borrow.Author.Count.{below_none, below_more}
+use borrow.Author.Count.{below_more}
 use borrow.Author.Tests.{le-leb, lt-leb}
 use native.Mathlib.Omega.{arith}
 use mathlib.Core.Path.{sym}
 use Rattle.reading.proofs.Laws.{all-holds, all-fails}
 use Rattle.reading.proofs.plan.bytes_within.Goals as goal
-
-pub loop-j-init : goal.loop-j-init
-loop-j-init c = (omega arith, below_none _)
 
 pub returns-then-byte_at : goal.returns-then-byte_at
 returns-then-byte_at c =
@@ -16,9 +13,9 @@ returns-then-byte_at c =
 pub loop-j-preserved : goal.loop-j-preserved
 loop-j-preserved c =
     let l = c.loop-j in
-    (omega arith, below_more _ _ l.invariant.1 (simp (← c.byte_at-in-loop-j.ensures, ← c.byte_at.ensures) (le-leb _ _ c.if-byte_at.false)))
+    below_more _ _ l.invariant (simp (← c.byte_at-in-loop-j.ensures, ← c.byte_at.ensures) (le-leb _ _ c.if-byte_at.false))
 
 pub returns : goal.returns
 returns c =
     let l = c.loop-j in
-    sym (all-holds _ _ (λ k h. l.invariant.1 k (omega arith)))
+    sym (all-holds _ _ (λ k h. l.invariant k (omega arith)))

@@ -1,5 +1,5 @@
 use borrow.Author.Count.{below_more}
-use borrow.Author.Tests.{lt-ltb, le-ltb, eq-eqb, ne_eqb}
+use borrow.Author.Tests.{le-ltb, eq-eqb, ne_eqb}
 use native.Mathlib.Omega.{arith}
 use mathlib.Core.Path.{sym}
 use mathlib.Core.Bool.{or-true}
@@ -7,22 +7,19 @@ use Rattle.reading.proofs.Laws.{all-holds, all-fails}
 use Rattle.reading.specs.Plan.{list_ends}
 use Rattle.reading.proofs.plan.list_ends.Goals as goal
 
-pub loop-j-init : goal.loop-j-init
-loop-j-init c = (omega arith, λ k h. rw (lt-ltb _ _ h))
-
 pub returns-then-byte_at-ne0 : goal.returns-then-byte_at-ne0
 unfolding list_ends
 returns-then-byte_at-ne0 c =
     let l = c.loop-j in
-    sym (all-fails _ _ l.j (omega arith) (rw (le-ltb _ _ l.invariant.0, ← c.byte_at.ensures, ne_eqb _ _ c.if-byte_at-ne0.true)))
+    sym (all-fails _ _ l.j (omega arith) (rw (le-ltb _ _ l.auto.j, ← c.byte_at.ensures, ne_eqb _ _ c.if-byte_at-ne0.true)))
 
 pub loop-j-preserved : goal.loop-j-preserved
 loop-j-preserved c =
     let l = c.loop-j in
-    (omega arith, below_more _ _ l.invariant.1 (rw (← c.byte_at.ensures, eq-eqb _ _ c.if-byte_at-ne0.false, or-true)))
+    below_more _ _ l.invariant (rw (← c.byte_at.ensures, eq-eqb _ _ c.if-byte_at-ne0.false, or-true))
 
 pub returns : goal.returns
 unfolding list_ends
 returns c =
     let l = c.loop-j in
-    sym (all-holds _ _ (λ k h. l.invariant.1 k (omega arith)))
+    sym (all-holds _ _ (λ k h. l.invariant k (omega arith)))

@@ -1,4 +1,4 @@
-use Prim.Native.Nat.{ℕ, ◌+◌, ◌-◌, ◌≤◌, ◌<◌}
+use Prim.Native.Nat.{ℕ, ◌+◌, ◌<◌}
 use mathlib.Core.Path.{◌≡◌}
 use mathlib.Core.Bool.{true, ◌||◌}
 use lib.Dec.{ltb, eqb}
@@ -7,7 +7,4 @@ use Rattle.reading.proofs.plan.list_ends.Given as goal
 
 abbrev pub invariant-loop-j : goal.invariant-loop-j
 invariant-loop-j l =
-    (l.listed ≤ l.j) × ((k : ℕ) → k < l.j → (ltb k l.listed || eqb (byte_at l.node (9 + k)) 0) ≡ true)
-
-abbrev pub decreases-loop-j : goal.decreases-loop-j
-decreases-loop-j l = 7 - l.j
+    (k : ℕ) → k < l.j → (ltb k l.listed || eqb (byte_at l.node (9 + k)) 0) ≡ true

@@ -7,9 +7,6 @@ use Rattle.reading.specs.Tree.{operator_at}
 use Rattle.reading.proofs.Laws.{all-holds, all-fails}
 use Rattle.reading.proofs.scan.tables_found.Goals as goal
 
-pub loop-i-init : goal.loop-i-init
-loop-i-init c = (omega arith, λ T e k h. absurd (omega arith))
-
 pub returns-then-not-table_found : goal.returns-then-not-table_found
 returns-then-not-table_found c = record {
   decides = λ T e.
@@ -22,12 +19,10 @@ returns-then-not-table_found c = record {
 pub loop-i-preserved : goal.loop-i-preserved
 loop-i-preserved c =
     let p = c.args.plan.now in
-    let l = c.loop-i in (
-      omega arith,
-      λ T e.
-          let f = rw c.node_at.ensures at (c.table_found.ensures.decides T e) in
-          below_more _ _ (l.invariant.1 T e) (sym f ∙ c.if-not-table_found.false),
-    )
+    let l = c.loop-i in
+    λ T e.
+    let f = rw c.node_at.ensures at (c.table_found.ensures.decides T e) in
+    below_more _ _ (l.invariant T e) (sym f ∙ c.if-not-table_found.false)
 
 pub returns : goal.returns
 returns c = record {
@@ -35,5 +30,5 @@ returns c = record {
       let p = c.args.plan.now in
       let l = c.loop-i in
       let q : l.i ≡ nodes_of p = omega arith in
-      sym (all-holds (nodes_of p) (λ i. found T (operator_at p i)) (rw q at (l.invariant.1 T e)));
+      sym (all-holds (nodes_of p) (λ i. found T (operator_at p i)) (rw q at (l.invariant T e)));
 }

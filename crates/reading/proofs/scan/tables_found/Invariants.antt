@@ -1,4 +1,4 @@
-use Prim.Native.Nat.{ℕ, ◌-◌, ◌≤◌, ◌<◌}
+use Prim.Native.Nat.{ℕ, ◌<◌}
 use mathlib.Core.Path.{◌≡◌}
 use mathlib.Core.Bool.{true}
 use Rattle.algebra.specs.Plans.{Tables}
@@ -7,7 +7,4 @@ use Rattle.reading.specs.Tree.{operator_at}
 use Rattle.reading.proofs.scan.tables_found.Given as goal
 
 abbrev pub invariant-loop-i : goal.invariant-loop-i
-invariant-loop-i l = (l.i ≤ l.n) × ((T : Tables) → T.amount ≡ l.tables → (k : ℕ) → k < l.i → found T (operator_at l.plan k) ≡ true)
-
-abbrev pub decreases-loop-i : goal.decreases-loop-i
-decreases-loop-i l = l.n - l.i
+invariant-loop-i l = (T : Tables) → T.amount ≡ l.tables → (k : ℕ) → k < l.i → found T (operator_at l.plan k) ≡ true

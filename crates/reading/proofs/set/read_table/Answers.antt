@@ -1,4 +1,4 @@
-use Rattle.reading.specs.declared.set.TableRead.TheVariants.{Whole}
+use Rattle.std.specs.Prelude.{Ok}
 use mathlib.Core.Bool.{true}
 use mathlib.Core.List.{List}
 use lib.ListN.{take}
@@ -65,7 +65,7 @@ returns-then-not-cells_allowed c =
 pub returns : goal.returns
 returns c =
     let a = c.args in
-    ap Whole (ap (λ (n : ℕ). 8 + n) c.cell_bytes-size.ensures.value)
+    ap Ok (ap (λ (n : ℕ). 8 + n) c.cell_bytes-size.ensures.value)
     ∙ sym (ap (read_table a.version) (sym (rest-is a.at a.set.now))
     ∙ read_whole _ _ (long (goal.at.returns c).Else-table-lt8) (marked (goal.at.returns c).Else-not-starts_with) (sized (goal.at.returns c).Else-not-size_allowed) (fitting (goal.at.returns c).Else-table-size)
     (ap (cells_allowed a.version) (sym (cells_are_lem _ _ _ c.cell_bytes-size.ensures.value)) ∙ sym c.cells_allowed.ensures ∙ c.if-not-cells_allowed.false))

@@ -1,4 +1,3 @@
-use native.Mathlib.Nat.{sub-zero}
 use Prim.Native.Nat.{suc, ◌+◌, ◌-◌}
 use native.Mathlib.Omega.{arith}
 use mathlib.Core.Path.{◌≡◌, sym, ◌∙◌}
@@ -6,18 +5,15 @@ use Rattle.reading.specs.TableSet.{table_from}
 use Rattle.reading.proofs.Laws.{table-next}
 use Rattle.reading.proofs.set.table_from.Goals as goal
 
-pub loop-i-init : goal.loop-i-init
-loop-i-init c = (omega arith, rw sub-zero)
-
-pub loop-i-preserved : goal.loop-i-preserved
-loop-i-preserved c =
-    let l = c.loop-i in
-    let q : c.args.t - l.i ≡ suc (c.args.t - (l.i + 1)) = omega arith in
-    (omega arith, l.invariant.1 ∙ rw (q, table-next, ← c.cell_bytes-size.ensures.value, ← c.tail-next.ensures))
+pub loop-preserved : goal.loop-preserved
+loop-preserved c =
+    let l = c.loop in
+    let q : c.args.t - l.counter ≡ suc (c.args.t - (l.counter + 1)) = omega arith in
+    l.invariant ∙ rw (q, table-next, ← c.cell_bytes.ensures.value, ← c.tail-rest.ensures)
 
 pub returns : goal.returns
 unfolding table_from
 returns c =
-    let l = c.loop-i in
-    let q : c.args.t - l.i ≡ 0 = omega arith in
-    sym (l.invariant.1 ∙ rw q)
+    let l = c.loop in
+    let q : c.args.t - l.counter ≡ 0 = omega arith in
+    sym (l.invariant ∙ rw q)

@@ -1,30 +1,26 @@
-use Rattle.std.specs.Prelude.{if◌then◌else◌}
-use Prim.Native.Nat.{ℕ}
-use mathlib.Core.Bool.{Bool, true, false}
 use mathlib.Core.Path.{◌≡◌, refl}
-use lib.Dec.{eqb}
-use borrow.Author.Tests.{eqb-true, ne_eqb}
-use Rattle.algebra.specs.Cells.{lt, le, gt, ge, is_unequal}
+use mathlib.Core.Bool.{false}
+use borrow.Author.Tests.{ne_eqb}
+use Rattle.algebra.specs.Cells.{is_unequal}
 use Rattle.reading.specs.Tree.{comparison_of}
+use Rattle.reading.specs.declared.comparison.Comparison.{Comparison}
+use Rattle.reading.specs.declared.comparison.Comparison.TheVariants.{Equal, Unequal, Less, AtMost, Greater, AtLeast, Other}
 use Rattle.reporting.proofs.cells.beside_number.Goals as goal
 
-none-unequal : (p q r : Bool) → false ≡ is_unequal (if p then lt else if q then le else if r then gt else ge)
-none-unequal true q r = refl
-none-unequal false true r = refl
-none-unequal false false true = refl
-none-unequal false false false = refl
-
--- of the six codes 1 is ≠
-unequal-code : (k : ℕ) → eqb k 1 ≡ is_unequal (comparison_of k)
-unequal-code k = go (eqb k 0) (eqb k 1) refl refl
-  where
-    go : (p q : Bool) → eqb k 0 ≡ p → eqb k 1 ≡ q → eqb k 1 ≡ is_unequal (comparison_of k)
-    go true q e f = rw (eqb-true k 0 e)
-    go false true e f = rw (e, f)
-    go false false e f = rw (e, f) (none-unequal (eqb k 2) (eqb k 3) (eqb k 4))
+none-unequal : (k : Comparison) → (k ≡ Unequal → ⊥) → false ≡ is_unequal (comparison_of k)
+none-unequal Equal n = refl
+none-unequal Unequal n = absurd (n refl)
+none-unequal Less n = refl
+none-unequal AtMost n = refl
+none-unequal Greater n = refl
+none-unequal AtLeast n = refl
+none-unequal (Other byte) n = refl
 
 pub returns-then-x-ne0 : goal.returns-then-x-ne0
 returns-then-x-ne0 c = rw (ne_eqb c.args.x 0 c.if-x-ne0.true)
 
-pub returns : goal.returns
-returns c = rw c.if-x-ne0.false (unequal-code c.args.comparison)
+pub returns-in-Unequal : goal.returns-in-Unequal
+returns-in-Unequal c = rw (c.if-x-ne0.false, c.in-Unequal.is)
+
+pub returns-in_default : goal.returns-in_default
+returns-in_default c = rw c.if-x-ne0.false (none-unequal c.args.comparison c.in_default.not-Unequal)

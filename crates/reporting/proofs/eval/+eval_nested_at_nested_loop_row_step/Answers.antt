@@ -21,7 +21,7 @@ use Rattle.reporting.proofs.Chunks.{rows_left_lem, turns, part-row, part_length}
 use Rattle.reporting.proofs.Building.{building_start, building_done, building_turn, building_row, turn_below, turn-ends}
 use Rattle.algebra.specs.Plans.{Row, bind}
 use Rattle.reporting.proofs.eval.+eval_nested_at_nested_loop_row_step.Goals as goal
-use Rattle.reporting.proofs.eval.+eval_nested_at_nested_loop_row_step.Goals.{eval-After-children_of-children, eval-After-eval-k, eval-After-eval-m, eval-After-tree_end-right, eval-After-tree_part, eval-Else-children-eq0, eval-Else-children-eq1, eval-Else-nodes_of-at, eval-Then-children-eq1, nested_loop-After-emitted_width-wo, nested_loop-After-row_step-r, nested_loop-In-loop-i, row_step-After-eval-k}
+use Rattle.reporting.proofs.eval.+eval_nested_at_nested_loop_row_step.Goals.{eval-After-children_of-children, eval-After-eval-k, eval-After-eval-m, eval-After-tree_end-right, eval-After-tree_part, eval-Else-children-eq0, eval-Else-children-eq1, eval-Else-nodes_of-at, eval-Then-children-eq1, nested_loop-After-emitted_width-wo, nested_loop-After-row_step-r, nested_loop-In-loop, row_step-After-eval-k}
 
 -- ---- eval
 
@@ -355,18 +355,18 @@ nested_at-returns t c =
 -- ---- nested_loop
 
 -- the row at hand has room for what it gives, and no more rows come than the bound has
-nested_loop-in_row : (t : ℕ) (c : nested_loop-In-loop-i t) → let a = c.args in let l = c.loop-i in let op = operator_of a.node in let k = bound_at a.set.now a.plan.now a.inner in StepRoom op a.ids.now (columns_at a.set.now a.plan.now a.inner) k l.src l.dst a.behind × (l.out + emitted_most op k ≤ 4096)
-nested_loop-in_row t c =
+nested_loopn_row : (t : ℕ) (c : nested_loop-In-loop t) → let a = c.args in let l = c.loop in let op = operator_of a.node in let k = bound_at a.set.now a.plan.now a.inner in StepRoom op a.ids.now (columns_at a.set.now a.plan.now a.inner) k l.src l.dst a.behind × (l.out + emitted_most op k ≤ 4096)
+nested_loopn_row t c =
     let a = c.args in
     let s = c.requires in
-    let l = c.loop-i in
+    let l = c.loop in
     let op = operator_of a.node in
     let k = bound_at a.set.now a.plan.now a.inner in
     let ds = columns_at a.set.now a.plan.now a.inner in
     let room = rw s.node_value.1 at s.loop_room in
-    let h = c.loop-i-test.true in (
+    let h = c.loop-test.true in (
       record { below = turn_below l.invariant.0 h op (λ e. keeps_rows op s.node_value.0 e a.ids.now ds k) room.share; apart = omega (arith, building_row l.invariant.0 h, room.apart) },
-      omega (arith, l.invariant.0.few, turns a.m (emitted_most op k) l.i h, s.inner_bound),
+      omega (arith, l.invariant.0.few, turns a.m (emitted_most op k) l.counter h, s.inner_bound),
     )
 
 -- how wide its rows are
@@ -374,17 +374,17 @@ nested_loop-wide : (t : ℕ) (c : nested_loop-After-emitted_width-wo t) → let 
 nested_loop-wide t c = let a = c.args in c.emitted_width-wo.ensures ∙ ap (λ (ds : List ℕ). length (emitted_columns (operator_of a.node) a.ids.now ds)) c.requires.node_value.1
 
 -- the next place is no higher than the row's end
-nested_loop-grows : (t : ℕ) (c : nested_loop-After-row_step-r t) → let a = c.args in let l = c.loop-i in let op = operator_of a.node in let k = bound_at a.set.now a.plan.now a.inner in StepRoom op a.ids.now (columns_at a.set.now a.plan.now a.inner) k l.src l.dst a.behind → c.emitted_width-wo.result ≡ length (emitted_columns (operator_of a.node) a.ids.now (columns_at a.set.now a.plan.now a.inner)) → l.dst + c.row_step-r.result * c.emitted_width-wo.result ≤ a.behind
+nested_loop-grows : (t : ℕ) (c : nested_loop-After-row_step-r t) → let a = c.args in let l = c.loop in let op = operator_of a.node in let k = bound_at a.set.now a.plan.now a.inner in StepRoom op a.ids.now (columns_at a.set.now a.plan.now a.inner) k l.src l.dst a.behind → c.emitted_width-wo.result ≡ length (emitted_columns (operator_of a.node) a.ids.now (columns_at a.set.now a.plan.now a.inner)) → l.dst + c.row_step-r.result * c.emitted_width-wo.result ≤ a.behind
 nested_loop-grows t c here wide =
     let a = c.args in
     let s = c.requires in
-    let l = c.loop-i in
+    let l = c.loop in
     let op = operator_of a.node in
     let k = bound_at a.set.now a.plan.now a.inner in
     let ds = columns_at a.set.now a.plan.now a.inner in
     let room = rw s.node_value.1 at s.loop_room in
     let r = c.row_step-r in
-    let ends = turn-ends l.invariant.0 c.loop-i-test.true op (λ e. keeps_rows op s.node_value.0 e a.ids.now ds k) room.share r.result r.ensures.gives.few in
+    let ends = turn-ends l.invariant.0 c.loop-test.true op (λ e. keeps_rows op s.node_value.0 e a.ids.now ds k) room.share r.result r.ensures.gives.few in
     omega (arith, ends, here.apart, ap (λ (x : ℕ). r.result * x) wide)
 
 pub nested_loop-emitted_width-wo-requires : goal.nested_loop-emitted_width-wo-requires
@@ -393,28 +393,28 @@ nested_loop-emitted_width-wo-requires t c = let s = c.requires in (s.node_value.
 pub nested_loop-find-found-requires : goal.nested_loop-find-found-requires
 nested_loop-find-found-requires t c = c.requires.ready_at.bound
 
-pub nested_loop-loop-i-init : goal.nested_loop-loop-i-init
-nested_loop-loop-i-init t c = (building_start c.args.cells.now refl, refl)
+pub nested_loop-loop-init : goal.nested_loop-loop-init
+nested_loop-loop-init t c = (building_start c.args.cells.now refl, refl)
 
 pub nested_loop-row_step-r-requires : goal.nested_loop-row_step-r-requires
 nested_loop-row_step-r-requires t c =
     let place = goal.at.nested_loop-row_step-r-requires t c in
-    let room = nested_loop-in_row t place.In-loop-i in
+    let room = nested_loopn_row t place.In-loop in
     let s = c.requires in
     let r = s.ready_at in
-    let l = c.loop-i in
-    (omega (arith, c.decreases), (c.find-found.ensures, ((s.node_value.0, s.node_value.1, omega (arith, l.invariant.1, s.node_value.3)), (rw s.node_value.1 room.0, record { sound = r.sound; room = rw l.invariant.1 r.room; bound = r.bound }))))
+    let l = c.loop in
+    (omega (arith, c.decreases), (c.find-found.ensures, ((s.node_value.0, s.node_value.1, omega (arith, l.invariant.1, s.node_value.3), s.node_value.2), (rw s.node_value.1 room.0, record { sound = r.sound; room = rw l.invariant.1 r.room; bound = r.bound }))))
 
 pub nested_loop-overflow_add-out : goal.nested_loop-overflow_add-out
 nested_loop-overflow_add-out t c =
     let place = goal.at.nested_loop-overflow_add-out t c in
-    let room = nested_loop-in_row t place.In-loop-i in
+    let room = nested_loopn_row t place.In-loop in
     omega (arith, room.1, c.row_step-r.ensures.gives.few)
 
 pub nested_loop-overflow_mul-dst : goal.nested_loop-overflow_mul-dst
 nested_loop-overflow_mul-dst t c =
     let place = goal.at.nested_loop-overflow_mul-dst t c in
-    let room = nested_loop-in_row t place.In-loop-i in
+    let room = nested_loopn_row t place.In-loop in
     let wide = nested_loop-wide t place.After-emitted_width-wo in
     let grows = nested_loop-grows t place.After-row_step-r room.0 wide in
     omega (arith, grows, c.ranges.behind)
@@ -422,41 +422,35 @@ nested_loop-overflow_mul-dst t c =
 pub nested_loop-overflow_add-dst : goal.nested_loop-overflow_add-dst
 nested_loop-overflow_add-dst t c =
     let place = goal.at.nested_loop-overflow_add-dst t c in
-    let room = nested_loop-in_row t place.In-loop-i in
+    let room = nested_loopn_row t place.In-loop in
     let wide = nested_loop-wide t place.After-emitted_width-wo in
     let grows = nested_loop-grows t place.After-row_step-r room.0 wide in
     omega (arith, grows, c.ranges.behind)
 
-pub nested_loop-overflow_add-i : goal.nested_loop-overflow_add-i
-nested_loop-overflow_add-i t c = omega (arith, c.loop-i-test.true, c.ranges.m)
-
 pub nested_loop-overflow_add-src : goal.nested_loop-overflow_add-src
 nested_loop-overflow_add-src t c =
     let place = goal.at.nested_loop-overflow_add-src t c in
-    let room = nested_loop-in_row t place.In-loop-i in
+    let room = nested_loopn_row t place.In-loop in
     omega (arith, room.0.apart, c.ranges.behind)
 
-pub nested_loop-loop-i-smaller : goal.nested_loop-loop-i-smaller
-nested_loop-loop-i-smaller t c = omega (arith, c.loop-i-test.true)
-
-pub nested_loop-loop-i-preserved : goal.nested_loop-loop-i-preserved
-nested_loop-loop-i-preserved t c =
-    let place = goal.at.nested_loop-loop-i-preserved t c in
+pub nested_loop-loop-preserved : goal.nested_loop-loop-preserved
+nested_loop-loop-preserved t c =
+    let place = goal.at.nested_loop-loop-preserved t c in
     let wide = nested_loop-wide t place.After-emitted_width-wo in
     let a = c.args in
-    let l = c.loop-i in
+    let l = c.loop in
     let w = length a.ids.now in
     let s = c.row_step-r in
     let last : List ℕ = s.new.cells in
-    let h = c.loop-i-test.true in
-    let left = rows_left_lem a.m w a.own l.i l.src a.behind last l.cells h l.invariant.0.src_at c.requires.loop_room.apart s.ensures.between in
+    let h = c.loop-test.true in
+    let left = rows_left_lem a.m w a.own l.counter l.src a.behind last l.cells h l.invariant.0.src_at c.requires.loop_room.apart s.ensures.between in
     (building_turn l.invariant.0 last s.result _ _ h s.ensures.gives s.ensures.before left refl (ap (λ (x : ℕ). l.dst + s.result * x) wide), s.auto.cells ∙ l.invariant.1)
 
 pub nested_loop-shape_of-cells : goal.nested_loop-shape_of-cells
-nested_loop-shape_of-cells t c = c.loop-i.invariant.1
+nested_loop-shape_of-cells t c = c.loop.invariant.1
 
 pub nested_loop-returns : goal.nested_loop-returns
-nested_loop-returns t c = building_done c.loop-i.invariant.0 c.loop-i-test.false
+nested_loop-returns t c = building_done c.loop.invariant.0 c.loop-test.false
 
 -- ---- row_step
 
@@ -516,7 +510,14 @@ row_step-emit_row-requires t c =
     let s = c.requires in
     let r = s.ready_at in
     let g = c.eval-k.ensures in
-    let k = c.eval-k.result in record { found_inside = (c.requires.found_for.inside, omega (arith, g.few, sound-bound r.sound), s.node_value.0); step_room = (step_less k s.step_room g.few, omega (arith, s.node_value.2, rows_fit k r g.few, ap (λ (x : List ℕ). k * length x) s.node_value.1, (row_step-back t place.After-eval-k).0)) }
+    let k = c.eval-k.result in
+    record { room = record { step = step_less k s.step_room g.few; held = omega (arith, s.node_value.2, rows_fit k r g.few, ap (λ (x : List ℕ). k * length x) s.node_value.1, (row_step-back t place.After-eval-k).0) }; lookup = tt }
+
+pub row_step-invariant_of-right : goal.row_step-invariant_of-right
+row_step-invariant_of-right t c =
+    let s = c.requires in
+    let r = s.ready_at in
+    record { few = omega (arith, c.eval-k.ensures.few, sound-bound r.sound); narrow = omega (arith, ap length s.node_value.1, sound-width r.sound) }
 
 pub row_step-shape_of-cells : goal.row_step-shape_of-cells
 row_step-shape_of-cells t c =
@@ -531,4 +532,4 @@ row_step-returns t c =
     let room = s.step_room in
     let ys = c.eval-k.new.cells in
     let inside = c.inner_env.ensures ∙ ap (λ (x : Row). bind a.ids.now x (env_of a.env.now)) (sym (part-row a.src (length a.ids.now) a.cells.now)) in
-    step_arm a.cells.now ys a.ids.now a.src a.behind room.apart s.node_value.2 (operator_of a.node) a.jds.now a.env.now s.node_value.1 inside (row_step-back t place.After-eval-k).1 (omega (arith, room.below)) (c.emit_row.ensures (env_of a.env.now) c.requires.found_for)
+    step_arm a.cells.now ys a.ids.now a.src a.behind room.apart s.node_value.2 (operator_of a.node) a.jds.now a.env.now s.node_value.1 inside (row_step-back t place.After-eval-k).1 (omega (arith, room.below)) (c.emit_row.ensures.given (env_of a.env.now) c.requires.found_for)

@@ -12,8 +12,8 @@ columns_into-v-requires c = (c.requires.sound_at.1, sound-width c.requires.sound
 pub slice_bounds-rows_of_each-end : goal.slice_bounds-rows_of_each-end
 slice_bounds-rows_of_each-end c = omega (arith, sound-width c.requires.sound_at.0, c.columns_into-w.ensures.0, c.columns_into-w.auto.ids)
 
-pub slice_bounds-rows_of_each-end-2 : goal.slice_bounds-rows_of_each-end-2
-slice_bounds-rows_of_each-end-2 c = omega (arith, sound-width c.requires.sound_at.1, c.columns_into-v.ensures.0, c.columns_into-v.auto.ids)
+pub slice_bounds-rows-end : goal.slice_bounds-rows-end
+slice_bounds-rows-end c = omega (arith, sound-width c.requires.sound_at.1, c.columns_into-v.ensures.0, c.columns_into-v.auto.ids)
 
 pub rows_of_each-requires : goal.rows_of_each-requires
 rows_of_each-requires c =
@@ -22,9 +22,9 @@ rows_of_each-requires c =
     let e = ids-part c.columns_into-w.result c.columns_into-w.new.ids c.columns_into-w.ensures.1 in
     let f = ids-part c.columns_into-v.result c.columns_into-v.new.ids c.columns_into-v.ensures.1 in
     rw (e, f) (record {
-      node_value = (s.sound_at.2, s.sound_at.3);
-      ids_len_bound = (sound-width s.sound_at.0, sound-width s.sound_at.1, s.k_bound.0, s.k_bound.1);
-      loop_room = (s.loop_room, s.k_bound.2);
+      node = (s.sound_at.2, s.sound_at.3, sound-width s.sound_at.0);
+      few = s.k_bound.1;
+      room = (s.loop_room, s.k_bound.2);
     })
 
 pub returns : goal.returns

@@ -1,12 +1,9 @@
 use mathlib.Core.Path.{◌≡◌}
-use Prim.Native.Nat.{◌+◌, ◌*◌, ◌-◌, ◌≤◌}
-use lib.ListN.{drop}
+use Prim.Native.Nat.{◌+◌, ◌*◌, ◌-◌}
+use lib.ListN.{length, drop}
 use Rattle.reporting.specs.Rows.{rows_from}
 use Rattle.reporting.proofs.Tallies.{Tallying}
 use Rattle.reporting.proofs.gather.gather.Given as goal
 
-abbrev pub invariant-loop-i : goal.invariant-loop-i
-invariant-loop-i l = (l.i ≤ l.k) × (l.at ≡ l.behind + l.i * l.v) × Tallying l.found (drop l.src l.cells) (rows_from l.behind l.k l.v l.cells) (rows_from l.at (l.k - l.i) l.v l.cells) l.tally
-
-abbrev pub decreases-loop-i : goal.decreases-loop-i
-decreases-loop-i l = l.k - l.i
+abbrev pub invariant-loop : goal.invariant-loop
+invariant-loop l = (l.at ≡ l.right.at + l.counter * (length l.right.columns.now)) × Tallying l.found (drop l.src l.cells) (rows_from l.right.at l.right.count (length l.right.columns.now) l.cells) (rows_from l.at (l.right.count - l.counter) (length l.right.columns.now) l.cells) l.tally

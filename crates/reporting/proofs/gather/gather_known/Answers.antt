@@ -1,6 +1,6 @@
 use mathlib.Core.Path.{◌≡◌, refl, sym, ap, ◌∙◌}
 use mathlib.Core.List.{List}
-use Prim.Native.Nat.{ℕ, ◌+◌, ◌-◌, ◌≤◌, ◌<◌}
+use Prim.Native.Nat.{ℕ, ◌+◌, ◌≤◌, ◌<◌}
 use native.Mathlib.Omega.{arith}
 use lib.Dec.{eqb}
 use lib.ListN.{length, drop, get_or}
@@ -14,36 +14,20 @@ use Rattle.reporting.proofs.Known.{before-most, known_kept, known-set}
 use Rattle.reporting.proofs.gather.gather_known.Goals as goal
 use Rattle.reporting.proofs.gather.gather_known.Goals.{After-first_linked-first, Start}
 
--- the places of the keys lie in the rows
-inside : (c : Start) → (c.args.left < length c.args.cells.now - c.args.src) × (c.args.right < c.args.v)
-inside c = c.requires.equals.0.inside (length c.args.cells.now - c.args.src) c.args.v c.requires.found_inside.0.keys
-
 -- the number of the left row's key
-number : (c : After-first_linked-first) → let a = c.args in c.first_linked-first.result ≡ key_number a.left a.right (rows_from a.behind a.k a.v a.cells.now) (drop a.src a.cells.now)
+number : (c : After-first_linked-first) → let a = c.args in c.first_linked-first.result ≡ key_number a.index.keys.left a.index.keys.right (rows_from a.right.at a.right.count (length a.right.columns.now) a.cells.now) (drop a.src a.cells.now)
 number c =
     let a = c.args in
-    c.first_linked-first.ensures ∙ ap (λ (x : ℕ). before (λ q. eqb (get_or q a.right 0) x) (rows_from a.behind a.k a.v a.cells.now)) (sym (get_or-drop a.src a.cells.now a.left 0))
+    c.first_linked-first.ensures ∙ ap (λ (x : ℕ). before (λ q. eqb (get_or q a.index.keys.right 0) x) (rows_from a.right.at a.right.count (length a.right.columns.now) a.cells.now)) (sym (get_or-drop a.src a.cells.now a.index.keys.left 0))
 
 -- it lies within what is kept
 within : (c : After-first_linked-first) → (c.first_linked-first.result < length c.args.known.now) × (c.first_linked-first.result ≤ 4096)
 within c =
     let a = c.args in
-    let rs : List Row = rows_from a.behind a.k a.v a.cells.now in
-    let most : before (λ q. eqb (get_or q a.right 0) (get_or a.cells.now (a.src + a.left) 0)) rs ≤ length rs = before-most (λ q. eqb (get_or q a.right 0) (get_or a.cells.now (a.src + a.left) 0)) rs in
-    let few : c.first_linked-first.result ≤ 4096 = omega (arith, most, c.first_linked-first.ensures, length-chunk a.k a.v (drop a.behind a.cells.now), c.requires.found_inside.2) in
+    let rs : List Row = rows_from a.right.at a.right.count (length a.right.columns.now) a.cells.now in
+    let most : before (λ q. eqb (get_or q a.index.keys.right 0) (get_or a.cells.now (a.src + a.index.keys.left) 0)) rs ≤ length rs = before-most (λ q. eqb (get_or q a.index.keys.right 0) (get_or a.cells.now (a.src + a.index.keys.left) 0)) rs in
+    let few : c.first_linked-first.result ≤ 4096 = omega (arith, most, c.first_linked-first.ensures, length-chunk a.right.count (length a.right.columns.now) (drop a.right.at a.cells.now), c.args.right.few) in
     (omega (arith, few, c.requires.shared.1.all), few)
-
-pub overflow_add-key : goal.overflow_add-key
-overflow_add-key c = omega (arith, (inside (goal.at.overflow_add-key c).Start).0, c.well_formed)
-
-pub offset_bounds-cells-src : goal.offset_bounds-cells-src
-offset_bounds-cells-src c = omega (arith, (inside (goal.at.offset_bounds-cells-src c).Start).0, c.well_formed)
-
-pub bounds-cells-src : goal.bounds-cells-src
-bounds-cells-src c = omega (arith, (inside (goal.at.bounds-cells-src c).Start).0, c.well_formed)
-
-pub first_linked-first-requires : goal.first_linked-first-requires
-first_linked-first-requires c = record { place_lt_w = ((inside (goal.at.first_linked-first-requires c).Start).1, c.requires.found_inside.1); linked = c.requires.equals.1 }
 
 pub offset_bounds-known-first : goal.offset_bounds-known-first
 offset_bounds-known-first c = omega (arith, (within ((goal.at.offset_bounds-known-first c).After-first_linked-first)).1)
@@ -54,10 +38,7 @@ bounds-known-first c = (within (goal.at.bounds-known-first c).After-first_linked
 pub returns-then-kept-gt0 : goal.returns-then-kept-gt0
 returns-then-kept-gt0 c =
     let a = c.args in
-    let rs : List Row = rows_from a.behind a.k a.v a.cells.now in record { value = known_kept a.found a.left a.right c.requires.equals.0 rs a.known.now c.requires.shared.1 (drop a.src a.cells.now) c.first_linked-first.result (number (goal.at.returns-then-kept-gt0 c).After-first_linked-first) _ refl c.if-kept-gt0.true; known = c.requires.shared.1 }
-
-pub gather_linked-cell-requires : goal.gather_linked-cell-requires
-gather_linked-cell-requires c = record { found_inside = c.requires.found_inside; equals = c.requires.equals }
+    let rs : List Row = rows_from a.right.at a.right.count (length a.right.columns.now) a.cells.now in record { value = known_kept a.found.now a.index.keys.left a.index.keys.right c.requires.indexed.equals rs a.known.now c.requires.shared.1 (drop a.src a.cells.now) c.first_linked-first.result (number (goal.at.returns-then-kept-gt0 c).After-first_linked-first) _ refl c.if-kept-gt0.true; known = c.requires.shared.1 }
 
 pub offset_bounds-known-first-2 : goal.offset_bounds-known-first-2
 offset_bounds-known-first-2 c = omega (arith, (within (goal.at.offset_bounds-known-first-2 c).After-first_linked-first).1)
@@ -68,4 +49,4 @@ bounds-known-first-2 c = (within (goal.at.bounds-known-first-2 c).After-first_li
 pub returns : goal.returns
 returns c =
     let a = c.args in
-    let rs : List Row = rows_from a.behind a.k a.v a.cells.now in record { value = c.gather_linked-cell.ensures; known = known-set a.found a.left a.right c.requires.equals.0 rs a.known.now c.requires.shared.1 (drop a.src a.cells.now) c.first_linked-first.result (number (goal.at.returns c).After-first_linked-first) c.requires.shared.0 c.gather_linked-cell.result c.gather_linked-cell.ensures (within (goal.at.returns c).After-first_linked-first).0 }
+    let rs : List Row = rows_from a.right.at a.right.count (length a.right.columns.now) a.cells.now in record { value = c.gather_linked-cell.ensures; known = known-set a.found.now a.index.keys.left a.index.keys.right c.requires.indexed.equals rs a.known.now c.requires.shared.1 (drop a.src a.cells.now) c.first_linked-first.result (number (goal.at.returns c).After-first_linked-first) c.requires.shared.0 c.gather_linked-cell.result c.gather_linked-cell.ensures (within (goal.at.returns c).After-first_linked-first).0 }

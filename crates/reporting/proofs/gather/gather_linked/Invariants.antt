@@ -8,7 +8,7 @@ use Rattle.reporting.proofs.Tallies.{Tallying}
 use Rattle.reporting.proofs.gather.gather_linked.Given as goal
 
 abbrev pub invariant-loop-h : goal.invariant-loop-h
-invariant-loop-h l = Walk l.k l.next l.h × Tallying l.found (drop l.src l.cells) (rows_from l.behind l.k l.v l.cells) (on_chain l.k (rows_from l.behind l.k l.v l.cells) l.next l.h) l.tally
+invariant-loop-h l = Walk l.right.count l.index.next.now l.h × Tallying l.found (drop l.src l.cells) (rows_from l.right.at l.right.count (length l.right.columns.now) l.cells) (on_chain l.right.count (rows_from l.right.at l.right.count (length l.right.columns.now) l.cells) l.index.next.now l.h) l.tally
 
 abbrev pub decreases-loop-h : goal.decreases-loop-h
-decreases-loop-h l = length (chain (suc l.k) l.next l.h)
+decreases-loop-h l = length (chain (suc l.right.count) l.index.next.now l.h)

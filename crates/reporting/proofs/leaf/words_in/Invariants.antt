@@ -1,4 +1,3 @@
-use Prim.Native.Nat.{◌-◌, ◌≤◌}
 use mathlib.Core.Path.{◌≡◌}
 use mathlib.Core.List.{map}
 use lib.ListN.{length, take}
@@ -8,7 +7,4 @@ use Rattle.reading.specs.declared.version.Version.TheVariants.{Second}
 use Rattle.reporting.proofs.leaf.words_in.Given as goal
 
 abbrev pub invariant-loop-i : goal.invariant-loop-i
-invariant-loop-i l = (l.i ≤ l.n) × (length l.cells ≡ length l.initial.cells) × (take l.i l.cells ≡ map (cell_at Second l.from) (upward l.i 0))
-
-abbrev pub decreases-loop-i : goal.decreases-loop-i
-decreases-loop-i l = l.n - l.i
+invariant-loop-i l = (length l.cells ≡ length l.initial.cells) × (take l.i l.cells ≡ map (cell_at Second l.from) (upward l.i 0))

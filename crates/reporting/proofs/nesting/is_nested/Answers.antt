@@ -1,9 +1,12 @@
-use borrow.Author.Tests.{lt-ltb, le-ltb}
-use Rattle.reporting.proofs.Children.{nested-kind}
+use mathlib.Core.Path.{sym}
+use Rattle.reading.proofs.FreeLaws.{is-nested, not-nested}
 use Rattle.reporting.proofs.nesting.is_nested.Goals as goal
 
-pub returns-then-kind-lt8 : goal.returns-then-kind-lt8
-returns-then-kind-lt8 c = let a = c.args in rw (lt-ltb a.node.kind 8 c.if-kind-lt8.true) at (nested-kind a.node)
+pub returns-in-Some : goal.returns-in-Some
+returns-in-Some c = let n = c.args.node in sym (is-nested n n.kind c.in-Some.is)
 
-pub returns : goal.returns
-returns c = let a = c.args in rw (le-ltb a.node.kind 8 c.if-kind-lt8.false) at (nested-kind a.node)
+pub returns-in_default : goal.returns-in_default
+returns-in_default c =
+    let n = c.args.node in
+    let d = c.in_default in
+    sym (not-nested n n.kind d.not-Some d.not-Every d.not-Fold d.not-Each)

@@ -1,12 +1,9 @@
+use mathlib.Core.Path.{◌∙◌}
 use native.Mathlib.Omega.{arith}
-use Rattle.reporting.proofs.Codes.{below-fits, below-back, code-above}
+use Rattle.reporting.proofs.Codes.{code-moved, stored}
 use Rattle.reporting.proofs.output.code.Goals as goal
 
-pub overflow_sub-result : goal.overflow_sub-result
-overflow_sub-result c = below-fits c.args.cell (omega arith)
-
-pub returns-then-cell-lt9223372036854775808 : goal.returns-then-cell-lt9223372036854775808
-returns-then-cell-lt9223372036854775808 c = below-back c.args.cell (omega arith)
-
 pub returns : goal.returns
-returns c = code-above c.args.cell (omega arith) (omega arith)
+returns c =
+    let cell = c.args.cell in
+    stored cell (omega arith) (c.cast_signed.ensures ∙ code-moved cell (omega arith))

@@ -1,48 +1,27 @@
 use mathlib.Core.Path.{◌≡◌, refl, sym, ap, ◌∙◌}
 use mathlib.Core.List.{◌∷◌, []}
-use Prim.Native.Nat.{ℕ, ◌+◌, ◌≤◌}
+use Prim.Native.Nat.{ℕ, ◌+◌, ◌*◌}
 use native.Mathlib.Omega.{arith}
 use lib.ListN.{length, drop}
 use Rattle.algebra.specs.Plans.{Row}
 use Rattle.reporting.specs.Positions.{picked}
 use Rattle.reporting.specs.Rows.{chunk, rows_from}
-use Rattle.reporting.proofs.Building.{map-single, building_start, building_row, kept-turn, kept-done}
+use Rattle.reporting.proofs.Building.{map-single, building_places, building_start, kept-turn, kept-done}
 use Rattle.reporting.proofs.Picks.{picked-front}
 use Rattle.reporting.proofs.select.cut_rows_at.Goals as goal
-use Rattle.reporting.proofs.select.cut_rows_at.Goals.{In-loop-i}
-
--- the row at hand lies within the cells, and its cut ends before it begins
-in_row : (c : In-loop-i) → let a = c.args in let l = c.loop-i in (l.src + a.w ≤ length l.cells) × (l.dst + length a.places.now ≤ l.src)
-in_row c =
-    let p = c.loop-i.invariant.0 in
-    let r = c.requires.1 in
-    omega (arith, building_row p c.loop-i-test.true, p.src_at, p.dst-at, r.below c.loop-i.i c.loop-i-test.true, r.inside, c.loop-i.invariant.1)
 
 pub loop-i-init : goal.loop-i-init
 loop-i-init c =
     let a = c.args in
-    (building_start a.cells.now (sym (map-single (picked a.places.now) (rows_from a.own a.m a.w a.cells.now))), refl)
-
-pub cut_row_at-requires : goal.cut_row_at-requires
-cut_row_at-requires c =
-    let (inside, below) = in_row (goal.at.cut_row_at-requires c).In-loop-i in
-    (below, λ i h. omega (arith, c.requires.0 i h))
-
-pub overflow_add-src : goal.overflow_add-src
-overflow_add-src c = omega (arith, in_row (goal.at.overflow_add-src c).In-loop-i)
-
-pub overflow_add-dst : goal.overflow_add-dst
-overflow_add-dst c = omega (arith, in_row (goal.at.overflow_add-dst c).In-loop-i)
+    (building_places (building_start a.cells.now (sym (map-single (picked a.places.now) (rows_from a.own a.m a.w a.cells.now)))), refl)
 
 pub loop-i-preserved : goal.loop-i-preserved
 loop-i-preserved c =
     let a = c.args in
     let l = c.loop-i in
-    let r = in_row (goal.at.loop-i-preserved c).In-loop-i in
-    (kept-turn l.invariant.0 c.loop-i-test.true (picked a.places.now (drop l.src l.cells)) c.cut_row_at.new.cells (l.i + 1) (l.dst + length a.places.now) (ap (λ (q : Row). q ∷ []) (picked-front a.places.now a.w (drop l.src l.cells) c.requires.0)) c.cut_row_at.ensures (omega arith) refl refl, c.cut_row_at.auto.cells ∙ l.invariant.1)
-
-pub shape_of-cells : goal.shape_of-cells
-shape_of-cells c = c.loop-i.invariant.1
+    let n = length a.places.now in
+    let row : Row = drop (a.own + l.i * a.w) l.cells in
+    (building_places (kept-turn l.invariant.0 c.loop-i-test.true (picked a.places.now row) c.cut_row_at.new.cells (l.i + 1) (l.i * n + n) (ap (λ (q : Row). q ∷ []) (picked-front a.places.now a.w row c.requires.0)) c.cut_row_at.ensures (omega (arith, c.requires.1.below l.i c.loop-i-test.true)) refl refl), c.cut_row_at.auto.cells ∙ l.invariant.1)
 
 pub returns : goal.returns
 returns c =

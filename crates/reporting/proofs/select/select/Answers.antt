@@ -1,67 +1,62 @@
 use mathlib.Core.List.{List, [], ◌∷◌}
 use mathlib.Core.Path.{◌≡◌, refl, sym, ap, ◌∙◌, fun_ext}
 use mathlib.Core.Bool.{Bool, cond}
-use Prim.Native.Nat.{◌+◌, ◌-◌, ◌≤◌}
+use Prim.Native.Nat.{ℕ, ◌+◌, ◌*◌, ◌-◌, ◌≤◌}
 use native.Mathlib.Omega.{arith}
 use lib.ListN.{length, take, drop, length-drop}
 use Rattle.algebra.specs.Lists.{filter}
 use Rattle.algebra.specs.Plans.{Row}
 use Rattle.reporting.specs.Rows.{chunk}
 use Rattle.reporting.specs.Sides.{condition_holds, ConditionInside}
+use Rattle.reporting.proofs.Chunks.{next_place}
 use Rattle.reporting.proofs.Sides.{condition_wider, condition_left, condition_right}
 use Rattle.reporting.proofs.Copies.{written_copy}
-use Rattle.reporting.proofs.Building.{filter-kept, building_start, building_row, kept-below, kept-turn, skipped_turn, kept-done}
+use Rattle.reporting.proofs.Building.{filter-kept, building_places, building_start, building_row, kept-below, kept-turn, skipped_turn, kept-done}
 use Rattle.reporting.proofs.select.select.Goals as goal
 use Rattle.reporting.proofs.select.select.Goals.{then-condition_holds, else-condition_holds}
 use Rattle.reporting.proofs.select.select.Goals.{In-loop-i}
 
 -- the row at hand lies within the cells, and its place at the front is no higher than it stands
-in_row : (c : In-loop-i) → (c.loop-i.src + length c.args.ids.now ≤ length c.loop-i.cells) × (c.loop-i.dst ≤ c.loop-i.src)
+in_row : (c : In-loop-i) → let w = length c.args.ids.now in let src = c.args.own + c.loop-i.i * w in (src + w ≤ length c.loop-i.cells) × (c.loop-i.out * w ≤ src)
 in_row c = let p = c.loop-i.invariant.0 in omega (arith, building_row p c.loop-i-test.true, kept-below p, c.requires)
 
 pub loop-i-init : goal.loop-i-init
 loop-i-init c =
     let a = c.args in
     let p = condition_holds c.find_test-test.result [] in
-    (building_start a.cells.now (sym (filter-kept p (chunk a.m (length a.ids.now) (drop a.own a.cells.now)))), refl)
+    (building_places (building_start a.cells.now (sym (filter-kept p (chunk a.m (length a.ids.now) (drop a.own a.cells.now))))), refl)
 
 pub condition_holds-requires : goal.condition_holds-requires
 condition_holds-requires c =
     let a = c.args in
-    condition_wider c.find_test-test.result 0 (length a.ids.now) (length c.loop-i.cells - 0) (length c.loop-i.cells - c.loop-i.src) c.find_test-test.ensures.inside (omega arith) (omega (arith, in_row (goal.at.condition_holds-requires c).In-loop-i))
-
-pub copy_row-requires : goal.copy_row-requires
-copy_row-requires c = record { dst_le_src = omega (arith, in_row (goal.at.copy_row-requires c).In-loop-i); w_in_bounds = omega (arith, in_row (goal.at.copy_row-requires c).In-loop-i) }
-
-pub overflow_add-out : goal.overflow_add-out
-overflow_add-out c = omega (arith, c.loop-i.invariant.0.few)
-
-pub overflow_add-dst : goal.overflow_add-dst
-overflow_add-dst c = omega (arith, (in_row (goal.at.overflow_add-dst c).In-loop-i).0, (in_row (goal.at.overflow_add-dst c).In-loop-i).1, (goal.at.overflow_add-dst c).In-loop-i)
-
-pub overflow_add-src : goal.overflow_add-src
-overflow_add-src c = omega (arith, (in_row (goal.at.overflow_add-src c).In-loop-i).0)
+    let w = length a.ids.now in
+    condition_wider c.find_test-test.result 0 w (length c.loop-i.cells - 0) (length c.loop-i.cells - (a.own + c.loop-i.i * w)) c.find_test-test.ensures.inside (omega arith) (omega (arith, in_row (goal.at.condition_holds-requires c).In-loop-i))
 
 pub loop-i-preserved : goal.loop-i-preserved
 loop-i-preserved c =
     let a = c.args in
     let l = c.loop-i in
     let w = length a.ids.now in
+    let src = a.own + l.i * w in
     let test = c.find_test-test.result in
-    let row : Row = take w (drop l.src l.cells) in
+    let row : Row = take w (drop src l.cells) in
     let inside : ConditionInside test 0 w = c.find_test-test.ensures.inside in
-    let met = condition_right 0 w [] (drop l.src l.cells) test inside ∙ condition_left 0 w (drop 0 l.cells) (drop l.src l.cells) test inside ∙ sym c.condition_holds.ensures in
+    let met = condition_right 0 w [] (drop src l.cells) test inside ∙ condition_left 0 w (drop 0 l.cells) (drop src l.cells) test inside ∙ sym c.condition_holds.ensures in
     let p = l.invariant.0 in
     let h = c.loop-i-test.true in
     let (within, below) = in_row (goal.at.loop-i-preserved c).In-loop-i in
-    let long : length (drop l.src l.cells) ≡ length l.cells - l.src = length-drop l.src l.cells in
-    elim c.if-condition_holds.branch [
-      | then-condition_holds v ↦ (kept-turn p h row c.if-condition_holds.cells c.if-condition_holds.out c.if-condition_holds.dst (ap (λ b. cond b (row ∷ []) []) (met ∙ v.if-condition_holds.true)) (written_copy l.cells c.if-condition_holds.cells (drop l.src l.cells) l.dst w (v.cells-is ∙ v.copy_row.ensures) (omega arith) (omega arith)) (omega arith) v.out-is v.dst-is, ap length v.cells-is ∙ v.copy_row.auto.cells ∙ l.invariant.1)
-      | else-condition_holds v ↦ (skipped_turn p h c.if-condition_holds.cells c.if-condition_holds.out c.if-condition_holds.dst (ap (λ b. cond b (row ∷ []) []) (met ∙ v.if-condition_holds.false)) v.cells-is v.out-is v.dst-is, ap length v.cells-is ∙ l.invariant.1)
+    let long : length (drop src l.cells) ≡ length l.cells - src = length-drop src l.cells in
+    let j = c.if-condition_holds in
+    elim j.branch [
+      | then-condition_holds v ↦ (
+        building_places (kept-turn p h row j.cells j.out (j.out * w) (ap (λ b. cond b (row ∷ []) []) (met ∙ v.if-condition_holds.true)) (written_copy l.cells j.cells (drop src l.cells) (l.out * w) w (v.cells-is ∙ v.copy_row.ensures) (omega arith) (omega arith)) (omega arith) v.out-is (ap (λ (n : ℕ). n * w) v.out-is ∙ sym (next_place l.out w))),
+        ap length v.cells-is ∙ v.copy_row.auto.cells ∙ l.invariant.1,
+      )
+      | else-condition_holds v ↦ (
+        building_places (skipped_turn p h j.cells j.out (j.out * w) (ap (λ b. cond b (row ∷ []) []) (met ∙ v.if-condition_holds.false)) v.cells-is v.out-is (ap (λ (n : ℕ). n * w) v.out-is)),
+        ap length v.cells-is ∙ l.invariant.1,
+      )
     ]
-
-pub shape_of-cells : goal.shape_of-cells
-shape_of-cells c = c.loop-i.invariant.1
 
 pub returns : goal.returns
 returns c =

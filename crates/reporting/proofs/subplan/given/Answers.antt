@@ -18,4 +18,4 @@ slice_bounds-clear-start c = omega (arith, c.requires.1)
 
 pub returns : goal.returns
 returns c =
-    let a = c.args in record { refusal_value = (refl, refl, refl); scratch_after = front_kept (a.rows * a.columns) a.scratch.now _ c.requires.1 c.clear.ensures }
+    let a = c.args in record { value = (refl, refl); scratch_after = front_kept (a.rows * a.columns) a.scratch.now _ c.requires.1 c.clear.ensures }

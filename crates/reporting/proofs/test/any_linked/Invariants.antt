@@ -10,7 +10,7 @@ use Rattle.reporting.proofs.Meets.{on_chain}
 use Rattle.reporting.proofs.test.any_linked.Given as goal
 
 abbrev pub invariant-loop-h : goal.invariant-loop-h
-invariant-loop-h l = Walk l.k l.next l.h × (any (meets l.found (drop l.src l.cells)) (rows_from l.behind l.k l.v l.cells) ≡ any (meets l.found (drop l.src l.cells)) (on_chain l.k (rows_from l.behind l.k l.v l.cells) l.next l.h))
+invariant-loop-h l = Walk l.right.count l.index.next.now l.h × (any (meets l.found (drop l.src l.cells)) (rows_from l.right.at l.right.count (length l.right.columns.now) l.cells) ≡ any (meets l.found (drop l.src l.cells)) (on_chain l.right.count (rows_from l.right.at l.right.count (length l.right.columns.now) l.cells) l.index.next.now l.h))
 
 abbrev pub decreases-loop-h : goal.decreases-loop-h
-decreases-loop-h l = length (chain (suc l.k) l.next l.h)
+decreases-loop-h l = length (chain (suc l.right.count) l.index.next.now l.h)

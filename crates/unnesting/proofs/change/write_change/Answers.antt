@@ -2,12 +2,6 @@ use native.Mathlib.Omega.{arith}
 use Rattle.unnesting.proofs.ChangeLaws.{changed}
 use Rattle.unnesting.proofs.change.write_change.Goals as goal
 
-pub copy_nodes-requires : goal.copy_nodes-requires
-copy_nodes-requires c =
-    let m = c.nodes_of-n.ensures.0 in
-    let q = c.requires.0 in
-    (omega (arith, m, q.rest), omega (arith, m), omega (arith, m, q.kept, q.count))
-
 pub returns : goal.returns
 returns c =
     let n = c.nodes_of-n in
@@ -19,5 +13,5 @@ returns c =
     let e₄ = c.put_more-at.ensures in
     let e₅ = c.copy_nodes.ensures in (
       omega (arith, m, c.requires.0.kept),
-      changed c.args.plan.now c.args.i c.args.change n.result _ m (rw m) h e₁.1 e₂.1 e₃.1 e₄.1 e₅.1,
+      changed c.args.plan.now c.args.i c.args.change n.result _ m (rw (m, c.count.ensures)) h e₁.1 e₂.1 e₃.1 e₄.1 e₅.1,
     )

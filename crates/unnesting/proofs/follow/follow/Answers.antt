@@ -1,87 +1,79 @@
 use native.Mathlib.Omega.{arith}
 use mathlib.Core.Path.{◌≡◌, ap, ◌∙◌}
-use Prim.Native.Nat.{◌+◌, ◌-◌, ◌≤◌}
-use lib.ListN.{length, take, get_or, length-take}
-use Rattle.algebra.specs.Steps.{attempt}
-use Rattle.reading.specs.TableSet.{tables_of}
-use Rattle.reading.specs.Tree.{plan_of}
+use mathlib.Core.List.{List, []}
+use Prim.Native.Nat.{ℕ, ◌+◌, ◌*◌, ◌-◌, ◌/◌}
+use lib.ListN.{length, take, get_or}
 use Rattle.reading.proofs.PlanBytes.{plan_passed}
-use Rattle.unnesting.specs.Attempts.{Left}
 use Rattle.unnesting.proofs.Demand3.{input-parts}
-use Rattle.unnesting.proofs.AttemptLaws.{tells_none, tells_left}
 use Rattle.unnesting.proofs.RunLaws.{front-written, front-part, held}
-use Rattle.unnesting.proofs.FollowLaws.{following_start, following_short, following_end, following_unfit, following_step}
+use Rattle.unnesting.proofs.FollowLaws.{Following, paired, following_start, following_short, following_end, following_unfit, following_step}
 use Rattle.unnesting.proofs.follow.follow.Goals as goal
-use Rattle.unnesting.proofs.follow.follow.Goals.{At-loop-needed, In-Yes, In-loop-needed}
+use Rattle.unnesting.proofs.follow.follow.Goals.{After-write_bytes, In-loop-pair, After-write_bytes-in-loop-pair}
 
-whole : (c : At-loop-needed) → take (c.loop-needed.bytes - 0) c.loop-needed.current ≡ take c.loop-needed.bytes c.loop-needed.current
-whole c = let z : c.loop-needed.bytes - 0 ≡ c.loop-needed.bytes = omega arith in rw z
+whole : (c : In-loop-pair) → take (c.loop-pair.bytes - 0) c.loop-pair.current ≡ take c.loop-pair.bytes c.loop-pair.current
+whole c = let z : c.loop-pair.bytes - 0 ≡ c.loop-pair.bytes = omega arith in rw z
 
-fits : (c : In-loop-needed) → c.loop-needed.needed ≤ length c.args.scratch.now
-fits c = omega (arith, c.loop-needed-test.true, c.loop-needed.invariant.2)
+rule : (c : In-loop-pair) → get_or (get_or c.as_chunks.result.0.now c.loop-pair.pair-index []) 0 0 ≡ get_or c.args.steps.now (2 * c.loop-pair.pair-index) 0
+rule c =
+    ap (λ (pairs : List (List ℕ)). get_or (get_or pairs c.loop-pair.pair-index []) 0 0) c.as_chunks.ensures.front ∙ paired c.args.steps.now (length c.args.steps.now / 2) c.loop-pair.pair-index 0 _ (omega arith) (omega (arith, c.as_chunks.ensures.front_len)) (omega arith) (omega arith)
 
-left : (c : In-Yes) → Left c.args.set.now c.try_step.new.out (attempt (tables_of c.args.set.now) (record { number = get_or c.args.steps.now c.loop-needed.at 0; place = get_or c.args.steps.now (c.loop-needed.at + 1) 0 }) (plan_of (take (c.loop-needed.bytes - 0) c.loop-needed.current))) c.in-Yes.length c.in-Yes.need
-left c = tells_left _ _ _ _ _ _ c.try_step.ensures c.in-Yes.is
+place : (c : In-loop-pair) → get_or (get_or c.as_chunks.result.0.now c.loop-pair.pair-index []) 1 0 ≡ get_or c.args.steps.now (2 * c.loop-pair.pair-index + 1) 0
+place c =
+    ap (λ (pairs : List (List ℕ)). get_or (get_or pairs c.loop-pair.pair-index []) 1 0) c.as_chunks.ensures.front ∙ paired c.args.steps.now (length c.args.steps.now / 2) c.loop-pair.pair-index 1 _ (omega arith) (omega (arith, c.as_chunks.ensures.front_len)) (omega arith) (omega arith)
+
+begun : (c : After-write_bytes) → Following c.args.input.set.now c.args.input.plan.now c.args.steps.now (length c.args.scratch.now) c.write_bytes.new.out (length c.args.input.plan.now) c.args.input.need 0
+begun c =
+    let a = c.args in
+    following_start a.input.set.now a.input.plan.now a.steps.now _ _ _ c.args.input.accepted c.args.input.passed c.args.input.needed (ap (take (length a.input.plan.now)) c.write_bytes.ensures ∙ front-written _ _)
+
+next : (c : After-write_bytes-in-loop-pair)
+    → Following c.args.input.set.now c.args.input.plan.now c.args.steps.now (length c.args.scratch.now) c.write_bytes-in-loop-pair.new.out c.in-Some.found.length c.in-Some.found.need (c.loop-pair.pair-index + 1)
+next c =
+    let a = c.args in
+    let l = c.loop-pair in
+    let i = (goal.at.After-write_bytes-in-loop-pair c).In-loop-pair in
+    following_step a.input.set.now a.input.plan.now a.steps.now _ _ _ _ _ l.invariant.4 l.invariant.3 _ (whole i) (omega (arith, c.loop-pair-test.true, c.as_chunks.ensures.front_len)) _ _ (rule i) (place i) _ _ _ _ c.in-Some.ensures
+    (ap (take c.in-Some.found.length) c.write_bytes-in-loop-pair.ensures ∙ front-part l.current c.try_step.new.out c.in-Some.found.length (omega (arith, c.in-Some.ensures.stored.short, c.try_step.auto.out, l.invariant.1, c.requires.1)))
 
 pub write_bytes-requires : goal.write_bytes-requires
 write_bytes-requires c =
     let a = c.args in
-    let k = (plan_passed a.set.now a.plan.now (input-parts a.set.now a.plan.now c.requires.plan_value.0).1).known in
-    omega (arith, k.long, k.most, c.requires.current_len.0)
+    let k = (plan_passed a.input.set.now a.input.plan.now (input-parts a.input.set.now a.input.plan.now c.args.input.accepted).1).known in
+    omega (arith, k.long, k.most, c.requires.0)
 
-pub loop-needed-init : goal.loop-needed-init
-loop-needed-init c =
-    let a = c.args in
-    (omega arith, omega arith, omega arith, following_start a.set.now a.plan.now a.steps.now _ _ _ c.requires.plan_value.0 c.requires.plan_value.1 c.requires.plan_value.2 (ap (take (length a.plan.now)) c.write_bytes.ensures ∙ front-written _ _))
+pub returns-then-scratch-needed : goal.returns-then-scratch-needed
+returns-then-scratch-needed c = following_short c.args.input.set.now c.args.input.plan.now c.args.steps.now _ _ _ _ _ (begun (goal.at.returns-then-scratch-needed c).After-write_bytes) c.if-scratch-needed.true
 
-pub overflow_sub-steps : goal.overflow_sub-steps
-overflow_sub-steps c = c.loop-needed.invariant.3.within
+pub loop-pair-init : goal.loop-pair-init
+loop-pair-init c = (omega arith, omega arith, omega arith, c.if-scratch-needed.false, begun (goal.at.loop-pair-init c).After-write_bytes)
 
-pub returns-then-steps-at-lt2 : goal.returns-then-steps-at-lt2
-returns-then-steps-at-lt2 c = following_end c.args.set.now c.args.plan.now c.args.steps.now _ _ _ _ _ c.loop-needed.invariant.3 (fits (goal.at.returns-then-steps-at-lt2 c).In-loop-needed) c.if-steps-at-lt2.true
+pub invariant_of-held : goal.invariant_of-held
+invariant_of-held c =
+    let l = c.loop-pair in
+    let h = held c.args.input.set.now _ _ _ _ _ l.invariant.4.stored (whole (goal.at.invariant_of-held c).In-loop-pair) in
+    record { accepted = h.allowed; passed = h.passed; known = c.args.input.known; needed = h.needs }
 
-pub bounds-steps-at : goal.bounds-steps-at
-bounds-steps-at c = omega (arith, c.if-steps-at-lt2.false)
+pub returns-in_default : goal.returns-in_default
+returns-in_default c =
+    let l = c.loop-pair in
+    let i = (goal.at.returns-in_default c).In-loop-pair in
+    following_unfit c.args.input.set.now c.args.input.plan.now c.args.steps.now _ _ _ _ _ l.invariant.4 l.invariant.3 _ (whole i) (omega (arith, c.loop-pair-test.true, c.as_chunks.ensures.front_len)) _ _ (rule i) (place i) c.in_default.ensures
 
-pub overflow_add-place : goal.overflow_add-place
-overflow_add-place c = omega (arith, c.if-steps-at-lt2.false)
+pub returns-then-scratch-needed-2 : goal.returns-then-scratch-needed-2
+returns-then-scratch-needed-2 c =
+    following_short c.args.input.set.now c.args.input.plan.now c.args.steps.now _ _ _ _ _ (next (goal.at.returns-then-scratch-needed-2 c).After-write_bytes-in-loop-pair) (omega (arith, c.if-scratch-needed-2.true, c.try_step.auto.scratch, c.loop-pair.invariant.2))
 
-pub bounds-steps-at-in-loop-needed : goal.bounds-steps-at-in-loop-needed
-bounds-steps-at-in-loop-needed c = omega (arith, c.if-steps-at-lt2.false)
-
-pub overflow_cast-place : goal.overflow_cast-place
-overflow_cast-place c = omega (arith, c.type_inv.steps (c.loop-needed.at + 1))
-
-pub slice_bounds-try_step-end : goal.slice_bounds-try_step-end
-slice_bounds-try_step-end c = omega (arith, c.loop-needed.invariant.3.stored.short, c.loop-needed.invariant.0, c.requires.current_len.0, c.write_bytes.auto.out)
-
-pub try_step-requires : goal.try_step-requires
-try_step-requires c =
-    let l = c.loop-needed in
-    let h = held c.args.set.now _ _ _ _ _ l.invariant.3.stored (whole (goal.at.try_step-requires c).At-loop-needed) in record { plan_value = (h.allowed, h.passed, c.requires.current_len.2); plan_in_bounds = (omega (arith, h.needs, c.loop-needed-test.true), omega (arith, l.invariant.1, c.requires.current_len.1)) }
-
-pub returns-in-No : goal.returns-in-No
-returns-in-No c = following_unfit c.args.set.now c.args.plan.now c.args.steps.now _ _ _ _ _ c.loop-needed.invariant.3 (fits (goal.at.returns-in-No c).In-loop-needed) _ (whole (goal.at.returns-in-No c).At-loop-needed) c.if-steps-at-lt2.false (tells_none _ _ _ _ c.try_step.ensures c.in-No.is)
-
-pub slice_bounds-write_bytes-end : goal.slice_bounds-write_bytes-end
-slice_bounds-write_bytes-end c = omega (arith, (left (goal.at.slice_bounds-write_bytes-end c).In-Yes).stored.short, c.try_step.auto.out, c.loop-needed.invariant.1, c.requires.current_len.1)
-
-pub write_bytes-requires-in-Yes : goal.write_bytes-requires-in-Yes
-write_bytes-requires-in-Yes c = omega (arith, length-take (c.in-Yes.length - 0) c.try_step.new.out, (left (goal.at.write_bytes-requires-in-Yes c).In-Yes).stored.short, c.loop-needed.invariant.0, c.requires.current_len.0, c.write_bytes.auto.out)
-
-pub overflow_add-at : goal.overflow_add-at
-overflow_add-at c = omega (arith, c.if-steps-at-lt2.false, c.well_formed)
-
-pub loop-needed-smaller : goal.loop-needed-smaller
-loop-needed-smaller c = omega (arith, c.if-steps-at-lt2.false)
-
-pub loop-needed-preserved : goal.loop-needed-preserved
-loop-needed-preserved c =
-    let a = c.args in
-    let l = c.loop-needed in
-    let e = c.try_step in
-    let n = left (goal.at.loop-needed-preserved c).In-Yes in
-    (omega (arith, l.invariant.0, c.write_bytes-in-Yes.auto.out), omega (arith, l.invariant.1, e.auto.out), omega (arith, l.invariant.2, e.auto.scratch), following_step a.set.now a.plan.now a.steps.now _ _ _ _ _ l.invariant.3 (fits (goal.at.loop-needed-preserved c).In-loop-needed) _ (whole (goal.at.loop-needed-preserved c).At-loop-needed) c.if-steps-at-lt2.false _ _ _ _ n (ap (take c.in-Yes.length) c.write_bytes-in-Yes.ensures ∙ front-part l.current e.new.out c.in-Yes.length (omega (arith, n.stored.short, e.auto.out, l.invariant.1, c.requires.current_len.1))))
+pub loop-pair-preserved : goal.loop-pair-preserved
+loop-pair-preserved c =
+    let l = c.loop-pair in (
+      omega (arith, l.invariant.0, c.write_bytes-in-loop-pair.auto.out),
+      omega (arith, l.invariant.1, c.try_step.auto.out),
+      omega (arith, l.invariant.2, c.try_step.auto.scratch),
+      omega (arith, c.if-scratch-needed-2.false, c.try_step.auto.scratch, l.invariant.2),
+      next (goal.at.loop-pair-preserved c).After-write_bytes-in-loop-pair,
+    )
 
 pub returns : goal.returns
-returns c = following_short c.args.set.now c.args.plan.now c.args.steps.now _ _ _ _ _ c.loop-needed.invariant.3 (omega (arith, c.loop-needed-test.false, c.loop-needed.invariant.2))
+returns c =
+    let l = c.loop-pair in
+    following_end c.args.input.set.now c.args.input.plan.now c.args.steps.now _ _ _ _ _ l.invariant.4 l.invariant.3 (omega (arith, c.loop-pair-test.false, c.as_chunks.ensures.front_len))

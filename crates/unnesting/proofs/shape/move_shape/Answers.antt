@@ -1,22 +1,18 @@
-use native.Mathlib.Omega.{arith}
 use mathlib.Core.Path.{sym, ◌∙◌}
-use Rattle.unnesting.proofs.MoveLaws.{place-small, move-none, move-made}
+use Rattle.unnesting.proofs.MoveLaws.{move-none, move-made}
 use Rattle.unnesting.proofs.shape.move_shape.Goals as goal
 
-pub overflow_add-i : goal.overflow_add-i
-overflow_add-i c = omega (arith, place-small c.args.set.now c.args.plan.now c.requires.plan_value c.args.i c.requires.i_bound.0)
-
-pub returns-then-local_at : goal.returns-then-local_at
-returns-then-local_at c =
+pub returns-then-not-local_at : goal.returns-then-not-local_at
+returns-then-not-local_at c =
     let a = c.args in
     let p = c.requires in
-    move-made a.set.now a.plan.now p.plan_value a.i p.i_bound.0 a.node p.i_bound.1 _ _ _ c.tree_end-f.ensures p.le_kind.0 p.le_kind.1 p.le_kind.2
-    (sym c.local_at.ensures ∙ c.if-local_at.true) _ _ _ c.plain_node-first.ensures c.plain_node-second.ensures
+    move-none a.place.set.now a.place.plan.now a.place.accepted a.place.i a.place.within a.place.node a.place.is _ _ _ c.second-f.ensures p.0 p.1
+    (sym c.local_at.ensures ∙ c.if-not-local_at.true)
 
 pub returns : goal.returns
 returns c =
     let a = c.args in
     let p = c.requires in
-    rw c.no_shape.ensures
-    (move-none a.set.now a.plan.now p.plan_value a.i p.i_bound.0 a.node p.i_bound.1 _ _ _ c.tree_end-f.ensures p.le_kind.0 p.le_kind.1 p.le_kind.2
-    (sym c.local_at.ensures ∙ c.if-local_at.false))
+    rw (c.plain_node.ensures, c.plain_node-2.ensures)
+    (move-made a.place.set.now a.place.plan.now a.place.accepted a.place.i a.place.within a.place.node a.place.is _ _ _ c.second-f.ensures p.0 p.1
+    (sym c.local_at.ensures ∙ c.if-not-local_at.false))

@@ -2,43 +2,43 @@ use Rattle.unnesting.proofs.RuleLaws.{no-rule}
 use Rattle.reading.specs.Tree.{operator_by}
 use Rattle.unnesting.proofs.shape.rule_of.Goals as goal
 
-pub returns-then-is_plain : goal.returns-then-is_plain
+pub returns-in-Semi : goal.returns-in-Semi
 unfolding operator_by
-returns-then-is_plain c = rw (c.in-6.is, ← c.is_plain.ensures, c.if-is_plain.true)
+returns-in-Semi c = rw (c.in-Semi.is, ← c.if-is_plain.ensures)
 
-pub returns-then-is_plain-2 : goal.returns-then-is_plain-2
+pub returns-in-Anti : goal.returns-in-Anti
 unfolding operator_by
-returns-then-is_plain-2 c = rw (c.in-7.is, ← c.is_plain-in-7.ensures, c.if-is_plain-2.true)
+returns-in-Anti c = rw (c.in-Anti.is, ← c.if-is_plain-2.ensures)
 
-pub returns-else-is_plain : goal.returns-else-is_plain
+pub returns-in-Semi-2 : goal.returns-in-Semi-2
 unfolding operator_by
-returns-else-is_plain c = rw (c.in-6.is, ← c.is_plain.ensures, c.if-is_plain.false)
+returns-in-Semi-2 c = rw (c.in-Semi.is, ← c.if-is_plain.ensures)
 
-pub returns-else-is_plain-2 : goal.returns-else-is_plain-2
+pub returns-in-Semi-2-2 : goal.returns-in-Semi-2-2
 unfolding operator_by
-returns-else-is_plain-2 c = rw (c.in-7.is, ← c.is_plain-in-7.ensures, c.if-is_plain-2.false)
+returns-in-Semi-2-2 c = rw (c.in-Anti.is, ← c.if-is_plain-2.ensures)
 
-pub returns-in-8 : goal.returns-in-8
+pub returns-in-Some : goal.returns-in-Some
 unfolding operator_by
-returns-in-8 c = rw c.in-8.is
+returns-in-Some c = rw c.in-Some.is
 
-pub returns-in-9 : goal.returns-in-9
+pub returns-in-Every : goal.returns-in-Every
 unfolding operator_by
-returns-in-9 c = rw c.in-9.is
+returns-in-Every c = rw c.in-Every.is
 
-pub returns-in-10 : goal.returns-in-10
+pub returns-in-Fold : goal.returns-in-Fold
 unfolding operator_by
-returns-in-10 c = rw c.in-10.is
+returns-in-Fold c = rw c.in-Fold.is
 
-pub returns-in-11 : goal.returns-in-11
+pub returns-in-Each : goal.returns-in-Each
 unfolding operator_by
-returns-in-11 c = rw c.in-11.is
+returns-in-Each c = rw c.in-Each.is
 
-pub returns-in-12 : goal.returns-in-12
+pub returns-in-Pair : goal.returns-in-Pair
 unfolding operator_by
-returns-in-12 c = rw c.in-12.is
+returns-in-Pair c = rw c.in-Pair.is
 
 pub returns-in_default : goal.returns-in_default
 returns-in_default c =
-    let h = c.in_default.in_default-own.rest in
-    no-rule c.args.node c.args.node.kind h.0.0.0.0.0.0.1 h.0.0.0.0.0.1 h.0.0.0.0.1 h.0.0.0.1 h.0.0.1 h.0.1 h.1
+    let d = c.in_default in
+    no-rule c.args.node c.args.node.kind d.not-Semi d.not-Anti d.not-Some d.not-Every d.not-Fold d.not-Each d.not-Pair

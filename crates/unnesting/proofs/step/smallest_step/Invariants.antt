@@ -1,5 +1,5 @@
 use mathlib.Core.Path.{◌≡◌}
-use Prim.Native.Nat.{ℕ, ◌-◌, ◌≤◌, ◌<◌}
+use Prim.Native.Nat.{ℕ, ◌<◌}
 use lib.ListN.{length}
 use Rattle.algebra.specs.Demand3.{Still}
 use Rattle.reading.specs.TableSet.{tables_of}
@@ -7,7 +7,4 @@ use Rattle.reading.specs.Tree.{plan_of}
 use Rattle.unnesting.proofs.step.smallest_step.Given as goal
 
 abbrev pub invariant-loop-i : goal.invariant-loop-i
-invariant-loop-i l = (length l.out ≡ length l.initial.out) × (length l.scratch ≡ length l.initial.scratch) × (l.i ≤ l.n) × ((j : ℕ) → j < l.i → Still (tables_of l.set) (plan_of l.plan) j)
-
-abbrev pub decreases-loop-i : goal.decreases-loop-i
-decreases-loop-i l = l.n - l.i
+invariant-loop-i l = (length l.out ≡ length l.initial.out) × (length l.scratch ≡ length l.initial.scratch) × ((j : ℕ) → j < l.i → Still (tables_of l.input.set.now) (plan_of l.input.plan.now) j)

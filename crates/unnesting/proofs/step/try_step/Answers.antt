@@ -12,27 +12,20 @@ use Rattle.unnesting.specs.Attempts.{Tells}
 use Rattle.unnesting.proofs.CandidateLaws.{attempt-past}
 use Rattle.unnesting.proofs.AttemptLaws.{nodes-size, other-rule, rule-named}
 use Rattle.unnesting.proofs.step.try_step.Goals as goal
-use Rattle.unnesting.proofs.step.try_step.Goals.{After-rule_of, Else-nodes_of-place}
+use Rattle.unnesting.proofs.step.try_step.Goals.{After-rule_of}
 
-inside : (c : Else-nodes_of-place) → c.args.place < nodes_of c.args.plan.now
-inside c = omega (arith, c.if-nodes_of-place.false, c.nodes_of.ensures.0)
-
-named : (c : After-rule_of) → c.rule_of.result ≡ number_at (plan_of c.args.plan.now) c.args.place
+named : (c : After-rule_of) → c.rule_of.result ≡ number_at (plan_of c.args.input.plan.now) c.args.place
 named c =
-    let here-inside : c.args.place < nodes_of c.args.plan.now = omega (arith, c.if-nodes_of-place.false, c.nodes_of.ensures.0) in
-    rule-named c.args.set.now c.args.plan.now c.requires.plan_value.0 c.args.place _ (here-inside) (c.rule_of.ensures ∙ ap (λ (x : Node). operator_rule (operator_of x)) c.node_at-node.ensures)
+    let here-inside : c.args.place < nodes_of c.args.input.plan.now = omega (arith, c.if-nodes_of-place.false, c.nodes_of.ensures.0) in
+    rule-named c.args.input.set.now c.args.input.plan.now c.args.input.accepted c.args.place _ (here-inside) (c.rule_of.ensures ∙ ap (λ (x : Node). operator_rule (operator_of x)) c.node_at-node.ensures)
 
 pub returns-then-nodes_of-place : goal.returns-then-nodes_of-place
-returns-then-nodes_of-place c = attempt-past (tables_of c.args.set.now) (plan_of c.args.plan.now) _ (omega (arith, c.if-nodes_of-place.true, c.nodes_of.ensures.0, nodes-size c.args.set.now c.args.plan.now c.requires.plan_value.0))
+returns-then-nodes_of-place c = attempt-past (tables_of c.args.input.set.now) (plan_of c.args.input.plan.now) _ (omega (arith, c.if-nodes_of-place.true, c.nodes_of.ensures.0, nodes-size c.args.input.set.now c.args.input.plan.now c.args.input.accepted))
 
 pub returns-then-rule_of-rule : goal.returns-then-rule_of-rule
-returns-then-rule_of-rule c = other-rule (tables_of c.args.set.now) (plan_of c.args.plan.now) _ (λ e. c.if-rule_of-rule.true (named (goal.at.returns-then-rule_of-rule c).After-rule_of ∙ sym e))
-
-pub step_at-requires : goal.step_at-requires
-step_at-requires c =
-    record { plan_value = (c.requires.plan_value.0, c.requires.plan_value.1, c.requires.plan_value.2); i_bound = (inside (goal.at.step_at-requires c).Else-nodes_of-place, c.node_at-node.ensures, omega (arith, c.requires.plan_in_bounds.1)); plan_in_bounds = omega (arith, c.requires.plan_in_bounds.0) }
+returns-then-rule_of-rule c = other-rule (tables_of c.args.input.set.now) (plan_of c.args.input.plan.now) _ (λ e. c.if-rule_of-rule.true (named (goal.at.returns-then-rule_of-rule c).After-rule_of ∙ sym e))
 
 pub returns : goal.returns
 returns c =
     let a = c.args in
-    subst (λ (u : ℕ). Tells a.set.now c.step_at.new.out (attempt (tables_of a.set.now) (record { number = u; place = a.place }) (plan_of a.plan.now)) c.step_at.result) (sym (named (goal.at.returns c).After-rule_of) ∙ c.if-rule_of-rule.false) c.step_at.ensures
+    subst (λ (u : ℕ). Tells a.input.set.now c.step_at.new.out (attempt (tables_of a.input.set.now) (record { number = u; place = a.place }) (plan_of a.input.plan.now)) c.step_at.result) (sym (named (goal.at.returns c).After-rule_of) ∙ c.if-rule_of-rule.false) c.step_at.ensures

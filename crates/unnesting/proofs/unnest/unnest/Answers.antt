@@ -1,17 +1,11 @@
-use mathlib.Core.Path.{refl, sym, ◌∙◌}
-use Rattle.reading.proofs.Acceptance.{accepted}
-use Rattle.reporting.proofs.Reports.{accepted-input}
+use mathlib.Core.Path.{refl, ◌∙◌}
 use Rattle.unnesting.proofs.UnnestLaws.{turned-back}
 use Rattle.unnesting.proofs.unnest.unnest.Goals as goal
 
-pub unnest_accepted-requires : goal.unnest_accepted-requires
-unnest_accepted-requires c =
+pub returns-in-Err : goal.returns-in-Err
+returns-in-Err c =
     let a = c.args in
-    let e = sym c.check_input.ensures ∙ c.in-Accepted.is in
-    let i = accepted-input a.set.now a.plan.now _ _ _ e in
-    (i.0, i.1, (accepted a.set.now a.plan.now _ _ _ e).set_read)
+    turned-back a.set.now a.plan.now a.out_plan.now a.out_steps.now a.scratch.now a.scratch.now _ _ _ _ c.in-Err.ensures.0 c.in-Err.ensures.1 (c.refused.ensures.0 ∙ c.from.ensures, c.refused.ensures.1, c.refused.ensures.2) refl
 
-pub returns-in-Refused : goal.returns-in-Refused
-returns-in-Refused c =
-    let a = c.args in
-    turned-back a.set.now a.plan.now a.out_plan.now a.out_steps.now a.scratch.now a.scratch.now _ _ _ _ (sym c.check_input.ensures ∙ c.in-Refused.is) c.refused.ensures refl
+pub returns-in-Ok : goal.returns-in-Ok
+returns-in-Ok c = rw (c.in-Ok.ensures.0, c.in-Ok.ensures.1) at c.unnest_accepted.ensures

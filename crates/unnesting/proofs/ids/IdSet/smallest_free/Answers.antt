@@ -1,36 +1,15 @@
-use mathlib.Core.Path.{sym, ◌∙◌}
 use native.Mathlib.Omega.{arith}
-use Rattle.unnesting.proofs.BitLaws.{parts, part-found, part_full}
+use Rattle.unnesting.proofs.BitLaws.{searched_none, searched-next, searched-found, searched_all}
 use Rattle.unnesting.proofs.ids.IdSet.smallest_free.Goals as goal
 
-pub returns-then-i-lt64 : goal.returns-then-i-lt64
-returns-then-i-lt64 c = record { found = λ ids h. sym (part-found 192 c.lowest-i.ensures (parts h).a (omega arith) (omega arith)) }
+pub loop-i-init : goal.loop-i-init
+loop-i-init c = searched_none _
 
-pub returns-then-j-lt64 : goal.returns-then-j-lt64
-returns-then-j-lt64 c = record {
-  found = λ ids h. sym (part_full 192 c.lowest-i.ensures (parts h).a (omega arith)
-      ∙ part-found 128 c.lowest-j.ensures (parts h).b (omega arith) (omega arith));
-}
+pub returns-then-free-lt64 : goal.returns-then-free-lt64
+returns-then-free-lt64 c = searched-found c.loop-i.invariant (omega arith) c.lowest-free.ensures c.if-free-lt64.true
 
-pub returns-then-k-lt64 : goal.returns-then-k-lt64
-returns-then-k-lt64 c = record {
-  found = λ ids h. sym (part_full 192 c.lowest-i.ensures (parts h).a (omega arith)
-      ∙ part_full 128 c.lowest-j.ensures (parts h).b (omega arith)
-      ∙ part-found 64 c.lowest-k.ensures (parts h).c (omega arith) (omega arith));
-}
-
-pub returns-then-l-lt64 : goal.returns-then-l-lt64
-returns-then-l-lt64 c = record {
-  found = λ ids h. sym (part_full 192 c.lowest-i.ensures (parts h).a (omega arith)
-      ∙ part_full 128 c.lowest-j.ensures (parts h).b (omega arith)
-      ∙ part_full 64 c.lowest-k.ensures (parts h).c (omega arith)
-      ∙ part-found 0 c.lowest-l.ensures (parts h).d (omega arith) (omega arith));
-}
+pub loop-i-preserved : goal.loop-i-preserved
+loop-i-preserved c = searched-next c.loop-i.invariant (omega arith) c.lowest-free.ensures (omega arith)
 
 pub returns : goal.returns
-returns c = record {
-  found = λ ids h. sym (part_full 192 c.lowest-i.ensures (parts h).a (omega arith)
-      ∙ part_full 128 c.lowest-j.ensures (parts h).b (omega arith)
-      ∙ part_full 64 c.lowest-k.ensures (parts h).c (omega arith)
-      ∙ part_full 0 c.lowest-l.ensures (parts h).d (omega arith));
-}
+returns c = searched_all c.loop-i.invariant (omega arith)

@@ -1,0 +1,6 @@
+use mathlib.Core.Path.{sym}
+use Rattle.prizes.proofs.RowsInCells.{player-at}
+use Rattle.prizes.proofs.standings.Standings.player.Goals as goal
+
+pub returns : goal.returns
+returns c = let s = c.args.self.now in sym (player-at s.rows s.columns s.cells.now c.args.i c.requires s.scored.wide)
