@@ -1,4 +1,5 @@
 -- The numbers of an unnesting or stay note answer are small, so that they fit a word of 64 bits together. Assumes nothing.
+use Rattle.std.specs.Prelude.{Option as Answer, None as Nothing, Some, Result, Ok, Err}
 use Prim.Native.Nat.{ℕ, zero, suc, ◌-◌, ◌≤◌}
 use mathlib.Core.Bool.{true, false, cond}
 use mathlib.Core.Path.{◌≡◌, refl, sym, subst}
@@ -20,14 +21,13 @@ use Rattle.algebra.proofs.StayNotes.{first-within}
 use Rattle.reading.specs.TableSet.{tables_of}
 use Rattle.reading.specs.Tree.{plan_of}
 use Rattle.reading.specs.Check.{input_refusal}
+use Rattle.reading.specs.declared.refusal.Refusal.{Refusal}
 use Rattle.reading.proofs.PlanBytes.{plan_passed}
 use Rattle.reading.proofs.Places.{whole-size}
 use Rattle.reporting.specs.Report.{count_after}
 use Rattle.reporting.proofs.Reports.{or-next, few}
 use Rattle.unnesting.specs.Unnest.{unnest_steps, unnest_number, written_plan, Unnested}
-use Rattle.unnesting.specs.StayNote.{stay_number, note_due, note_of, note_after, StayNoted}
-use Rattle.unnesting.specs.declared.stay_note.StayNote.{StayNote}
-use Rattle.unnesting.specs.declared.stay_note.StayNote.TheVariants.{Refused, None, Position}
+use Rattle.unnesting.specs.StayNote.{stay_number, note_due, position_of, note_after, StayNoted}
 use Rattle.unnesting.proofs.Demand3.{input-parts, demand_3}
 
 -- ---- unnesting: at most 192 steps, and a plan of at most 1,542 bytes
@@ -88,17 +88,17 @@ module _ (T : Tables) where
       ]
 
 -- the position of a note, 0 where there is none
-abbrev pub position_of : StayNote → ℕ
-position_of (Refused number) = 0
-position_of None = 0
-position_of (Position position) = position
+abbrev pub noted_at : Result (Answer ℕ) Refusal → ℕ
+noted_at (Err refusal) = 0
+noted_at (Ok Nothing) = 0
+noted_at (Ok (Some position)) = position
 
 -- the note at a place gives the first difference of the sequences there, or none
-noted_position : (s : Sequences) (o : Option Plan) → Short s → position_of (note_of (noted s o)) ≤ 4096
+noted_position : (s : Sequences) (o : Option Plan) → Short s → noted_at (Ok (position_of (noted s o))) ≤ 4096
 noted_position s none h = omega arith
 noted_position s (some q) h = omega (arith, first-within s.first s.second)
 
-due_few : (set plan : List ℕ) (place : ℕ) → input_refusal set plan ≡ 0 → position_of (note_of (note_due set plan place)) ≤ 4096
+due_few : (set plan : List ℕ) (place : ℕ) → input_refusal set plan ≡ 0 → noted_at (Ok (position_of (note_due set plan place))) ≤ 4096
 unfolding note_at
 due_few set plan place a =
     let T : Tables = tables_of set in
@@ -106,10 +106,10 @@ due_few set plan place a =
     let lows = refusal-low T p (plan_passed set plan (input-parts set plan a).1).unrefused in
     noted_position (look (sequences_of T) nothing p place) (accepted T (modify (stays T (fresh T p)) p place)) (look-short T p place lows)
 
-pub noted-few : (set plan : List ℕ) (place : ℕ) (scratch scratch' : List ℕ) (r : StayNote) → StayNoted set plan place scratch scratch' r → position_of r ≤ 4096
+pub noted-few : (set plan : List ℕ) (place : ℕ) (scratch scratch' : List ℕ) (r : Result (Answer ℕ) Refusal) → StayNoted set plan place scratch scratch' r → noted_at r ≤ 4096
 unfolding stay_number
-noted-few set plan place scratch scratch' r n = subst (λ (x : StayNote). position_of x ≤ 4096) (sym n.answer) (by (stay_number set plan (length scratch)) refl)
+noted-few set plan place scratch scratch' r n = subst (λ (x : Result (Answer ℕ) Refusal). noted_at x ≤ 4096) (sym n.answer) (by (stay_number set plan (length scratch)) refl)
   where
-    by : (k : ℕ) → stay_number set plan (length scratch) ≡ k → position_of (note_after k (note_due set plan place)) ≤ 4096
+    by : (k : ℕ) → stay_number set plan (length scratch) ≡ k → noted_at (note_after k (note_due set plan place)) ≤ 4096
     by zero e = due_few set plan place (or-next (input_refusal set plan) _ e).0
     by (suc k) e = omega arith

@@ -1,15 +1,13 @@
 -- What a C program gets from each call: one 64-bit word, beside the buffers that it lends. A refused call gives its number alone.
 -- Definitions only (docs/DEFINITION.md, "From C").
-use Rattle.std.specs.Prelude.{ℕ, ◌+◌, ◌*◌, ◌≡◌, List, ℤ, Result}
-use Rattle.reading.specs.Refusals.{number_of}
+use Rattle.std.specs.Prelude.{ℕ, ◌+◌, ◌*◌, ◌≡◌, List, ℤ, Option, None, Some, Result, Ok, Err}
+use Rattle.reading.specs.Refusals.{refusal_number, number_of}
 use Rattle.reading.specs.declared.refusal.Refusal.{Refusal}
 use Rattle.reporting.specs.declared.answer.Report.{Report}
 use Rattle.reporting.specs.Report.{answered_rows, answered_columns, Reported}
 use Rattle.unnesting.specs.Unnest.{Unnested}
 use Rattle.unnesting.specs.StayNote.{StayNoted}
 use Rattle.unnesting.specs.CheckSteps.{StepsChecked}
-use Rattle.unnesting.specs.declared.stay_note.StayNote.{StayNote}
-use Rattle.unnesting.specs.declared.stay_note.StayNote.TheVariants.{Refused, None, Position}
 use Rattle.reading.specs.declared.version.Version.{Version}
 use Rattle.conversion.specs.Convert.{answered_set, answered_plan, ConvertedFrom}
 use Rattle.conversion.specs.declared.convert.Converted.{Converted}
@@ -27,10 +25,10 @@ abbrev pub unnest_word : ℕ → ℕ → ℕ → ℕ
 unnest_word refusal steps bytes = refusal + 256 * steps + 16777216 * bytes
 
 -- the refusal, 0 where there is no note; a note is 2 ^ 8 + 2 ^ 16 · position
-abbrev pub stay_word : StayNote → ℕ
-stay_word (Refused number) = number
-stay_word None = 0
-stay_word (Position position) = 256 + 65536 * position
+abbrev pub stay_word : Result (Option ℕ) Refusal → ℕ
+stay_word (Err refusal) = refusal_number refusal
+stay_word (Ok None) = 0
+stay_word (Ok (Some position)) = 256 + 65536 * position
 
 -- refusal + 2 ^ 8 · bytes of the plan + 2 ^ 24 · bytes of the set
 abbrev pub convert_word : Result Converted Refusal → ℕ
@@ -55,7 +53,7 @@ pub record UnnestCalled (set plan plan_out plan_out' steps_out steps_out' scratc
   pub encoded : word ≡ unnest_word refusal steps bytes
 
 pub record StayNoteCalled (set plan : List ℕ) (place : ℕ) (scratch scratch' : List ℕ) (word : ℕ) : Type 0 where
-  pub answer : StayNote
+  pub answer : Result (Option ℕ) Refusal
   pub noted : StayNoted set plan place scratch scratch' answer
   pub encoded : word ≡ stay_word answer
 

@@ -1,4 +1,5 @@
 // The C interface. Each slice is passed as a pointer and a length, in this order; include/club.h has the declarations.
+// Each word is put together by itself, as the header says it; their parts differ.
 #![tactic(auto)]
 
 ghost use Rattle.std.specs.Prelude.{◌≡◌, ◌≤◌};
@@ -11,7 +12,7 @@ use prizes::prize::prize;
 use reading::refusal::Refusal;
 use reporting::report::report;
 use unnesting::check_steps::check_steps;
-use unnesting::stay_note::{StayNote, stay_note};
+use unnesting::stay_note::stay_note;
 use unnesting::unnest::unnest;
 
 // The reporting call. C gets refusal + 2^8 * columns + 2^16 * rows.
@@ -36,11 +37,10 @@ pub extern "C" fn club_unnest(
 ) -> u64
     ensures { UnnestCalled set.now plan.now out_plan.old out_plan.new out_steps.old out_steps.new scratch.old scratch.new result }
 {
-    let answer = unnest(set, plan, out_plan, out_steps, scratch);
-    let refusal = answer.refusal as u64;
-    let steps = answer.steps as u64;
-    let bytes = answer.bytes as u64;
-    refusal + 256 * steps + 16777216 * bytes
+    match unnest(set, plan, out_plan, out_steps, scratch) {
+        Err(refusal) => u8::from(refusal) as u64,
+        Ok(answer) => 256 * (answer.steps as u64) + 16777216 * (answer.bytes as u64),
+    }
 }
 
 // The stay note call. C gets the refusal, 0 where there is no note, or 2^8 + 2^16 * position.
@@ -49,9 +49,9 @@ pub extern "C" fn club_stay_note(set: &[u8], plan: &[u8], place: usize, scratch:
     ensures { StayNoteCalled set.now plan.now place scratch.old scratch.new result }
 {
     match stay_note(set, plan, place, scratch) {
-        StayNote::Refused(number) => number as u64,
-        StayNote::None => 0,
-        StayNote::Position(position) => 256 + 65536 * (position as u64),
+        Err(refusal) => u8::from(refusal) as u64,
+        Ok(None) => 0,
+        Ok(Some(position)) => 256 + 65536 * (position as u64),
     }
 }
 
@@ -66,7 +66,10 @@ pub extern "C" fn club_check_steps(
 ) -> u64
     ensures { CheckStepsCalled set.now plan.now steps.now theirs.now scratch.old scratch.new result }
 {
-    check_steps(set, plan, steps, theirs, scratch) as u64
+    match check_steps(set, plan, steps, theirs, scratch) {
+        Err(refusal) => u8::from(refusal) as u64,
+        Ok(()) => 0,
+    }
 }
 
 // The word of the converter's answer: refusal + 2^8 * bytes of the plan + 2^24 * bytes of the set.

@@ -18,7 +18,7 @@ pub struct Converted {
 }
 
 // Converts an input of so many tables that 1 to 14 do not turn back. 25 is tested before 15, and both outputs have room before either is
-// written.
+// written. C lends a set, a plan and two outputs one by one.
 fn convert_accepted(
     from: Version,
     to: Version,

@@ -31,7 +31,7 @@ pub(crate) fn code_of(version: Version, w: u64) -> u64
     }
 }
 
-// Writes bytes from a place on.
+// Writes bytes from a place on: a name for the library's copy, since six contracts speak of `bytes_written`.
 pub(crate) fn write_bytes(out: &mut [u8], at: usize, bytes: &[u8])
     requires { at + length bytes.now ≤ length out.old }
     ensures { out.new ≡ bytes_written out.old at bytes.now }

@@ -9,11 +9,13 @@ use borrow.Author.Tests.{ltb-false}
 use lib.Dec.{ltb}
 use lib.IntN.{ℤ}
 use lib.ListN.{length}
+use Rattle.reading.specs.Refusals.{number_of}
 use Rattle.reading.specs.Check.{or_next, input_refusal}
 use Rattle.reading.specs.declared.refusal.Refusal.{Refusal}
 use Rattle.reporting.specs.declared.answer.Report.{Report}
 use Rattle.reporting.specs.Report.{row_count, column_count, count_after, scratch_number, output_number, report_number, Reported}
-use Rattle.unnesting.specs.Unnest.{unnest_steps, written_steps, written_plan, unnest_scratch, unnest_output, unnest_number, Unnested}
+use Rattle.unnesting.specs.Unnest.{unnest_steps, written_steps, written_plan, unnest_scratch, unnest_output, unnest_number, answered_steps, answered_bytes, Unnested}
+use Rattle.unnesting.specs.declared.unnest.Unnested.{Unnested as Counts}
 use Rattle.unnesting.proofs.Runs.{steps-long}
 
 -- the second of two numbers turns nothing back where both together do not
@@ -54,8 +56,9 @@ enough-steps set plan plan_room step_room scratch_room e =
     omega (arith, l, steps-long (unnest_steps set plan))
 
 -- the steps of an unnesting
-pub steps-room : {set plan plan_out plan_out' steps_out steps_out' scratch scratch' : List ℕ} {refusal steps bytes : ℕ} → Unnested set plan plan_out plan_out' steps_out steps_out' scratch scratch' refusal steps bytes → refusal ≡ 0 → 2 * steps ≤ length steps_out
-steps-room {set} {plan} {plan_out} {plan_out'} {steps_out} {steps_out'} {scratch} {scratch'} {refusal} {steps} {bytes} a e =
-    let n : unnest_number set plan (length plan_out) (length steps_out) (length scratch) ≡ 0 = sym a.number ∙ e in
-    let i : steps ≡ length (unnest_steps set plan) = a.step_count ∙ ap (λ (k : ℕ). count_after k (length (unnest_steps set plan))) n in
+pub steps-room : {set plan plan_out plan_out' steps_out steps_out' scratch scratch' : List ℕ} {q : Result Counts Refusal} {r : Counts} → Unnested set plan plan_out plan_out' steps_out steps_out' scratch scratch' (number_of q) (answered_steps q) (answered_bytes q) → q ≡ Ok r → 2 * r.steps ≤ length steps_out
+steps-room {set} {plan} {plan_out} {plan_out'} {steps_out} {steps_out'} {scratch} {scratch'} {q} {r} given e =
+    let a = subst (λ (x : Result Counts Refusal). Unnested set plan plan_out plan_out' steps_out steps_out' scratch scratch' (number_of x) (answered_steps x) (answered_bytes x)) e given in
+    let n : unnest_number set plan (length plan_out) (length steps_out) (length scratch) ≡ 0 = sym a.number in
+    let i : r.steps ≡ length (unnest_steps set plan) = a.step_count ∙ ap (λ (k : ℕ). count_after k (length (unnest_steps set plan))) n in
     rw i (enough-steps set plan (length plan_out) (length steps_out) (length scratch) n)

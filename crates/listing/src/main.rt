@@ -17,12 +17,10 @@ fn list(rt: &impl Print, set: &[u8], plan: &[u8]) {
     let mut steps = [0u8; 384];
     // A plan whose need is larger is refused.
     let mut scratch: [u64; 262144] = zeros();
-    let unnested = unnest(set, plan, &mut last, &mut steps, &mut scratch);
-    let turned_back = unnested.refusal;
-    if turned_back != 0 {
-        show_refusal(rt, turned_back);
-        return;
-    }
+    let unnested = match unnest(set, plan, &mut last, &mut steps, &mut scratch) {
+        Ok(unnested) => unnested,
+        Err(refusal) => return show_refusal(rt, u8::from(refusal)),
+    };
     // Room for every report: 4,096 rows of 32 columns.
     let mut codes: [i64; 131072] = zeros();
     match report(set, head(&last, unnested.bytes), &mut codes, &mut scratch) {

@@ -39,6 +39,7 @@ impl Standings<'_> {
         ensures { out.new ≡ table_in self.now.rows self.now.columns self.now.cells.now places.now.pence.now ++ drop (2 * self.now.rows) out.old }
     {
         let mut i = 0;
+        // No count: a step is as long as its run.
         while i < self.rows {
             let end = self.run_end(i);
             let pool = self.pool_of(i, end, places);

@@ -62,7 +62,7 @@ record Small (node : Node) : Type 0 where
   left : byte node.left ≡ true
   right : byte node.right ≡ true
   column : byte node.column ≡ true
-  list : all byte node.list ≡ true
+  list : all byte node.list.ids ≡ true
   tested : all byte (test_named node) ≡ true
 
 module _ (v : Version) (part : List ℕ) (h : Bytes part) where
@@ -120,8 +120,8 @@ module _ (node : Node) (s : Small node) where
   small-names Unit = refl
   small-names Scan = refl
   small-names Select = s.tested
-  small-names Project = all_take node.listed node.list s.list
-  small-names Distinct = all_take node.listed node.list s.list
+  small-names Project = all_take node.list.count node.list.ids s.list
+  small-names Distinct = all_take node.list.count node.list.ids s.list
   small-names Cross = refl
   small-names Semi = rw (s.left, s.right, s.tested)
   small-names Anti = rw (s.left, s.right, s.tested)
@@ -131,7 +131,7 @@ module _ (node : Node) (s : Small node) where
   small-names Each = refl
   small-names Pair = rw (s.left, s.right, small_row)
   small-names Group = rw (s.right, all-minus (row_names node) (node.left ∷ []) small_row)
-  small-names Sort = all_take node.listed node.list s.list
+  small-names Sort = all_take node.list.count node.list.ids s.list
   small-names (Other b) = refl
 
   small_operator : all byte (operator_names (operator_of node)) ≡ true

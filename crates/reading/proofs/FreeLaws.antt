@@ -8,7 +8,7 @@ use mathlib.Core.Logic.{◌⊎◌}
 use mathlib.Core.Bool.{Bool, true, false, not, ◌&&◌, ◌||◌, and-true, and-false, or-true, and-eq-true_iff, false≢true}
 use mathlib.Core.List.{List, [], ◌∷◌, ◌++◌}
 use lib.Dec.{eqb}
-use lib.ListN.{get_or, replicate, get_or-replicate, get_or-eq_default}
+use lib.ListN.{get_or, replicate, get_or-replicate}
 use borrow.Author.Tests.{eq-eqb, ne_eqb, ltb-true}
 use Rattle.algebra.specs.Lists.{all, member, minus, is_empty, upward}
 use Rattle.algebra.specs.Plans.{Tables, names, Unary, select, project, distinct, group, sort, columns}

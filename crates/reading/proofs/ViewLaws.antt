@@ -4,17 +4,14 @@ use Prim.Native.Nat.{ℕ, ◌<◌}
 use native.Mathlib.Omega.{arith}
 use mathlib.Core.Path.{◌≡◌, refl, sym, ap, ◌∙◌}
 use mathlib.Core.Bool.{Bool, true, false, ◌&&◌, and-true, and-false}
-use mathlib.Core.List.{List, [], ◌∷◌, ◌++◌, append-nil}
-use lib.Dec.{eqb}
-use borrow.Author.Tests.{ne_eqb}
+use mathlib.Core.List.{List, [], ◌++◌, append-nil}
 use Rattle.algebra.specs.Lists.{member, within}
-use Rattle.algebra.specs.Cells.{sum, least, greatest, over}
 use Rattle.algebra.specs.Plans.{Tables, Plan, leaf, one, two, nested, columns, form_names}
 use Rattle.algebra.specs.Places.{Operator}
 use Rattle.algebra.specs.Names.{measured}
 use Rattle.algebra.specs.Refusals.{list_in_view, inner_scope, in_view}
 use Rattle.reading.specs.Plan.{kind_entry, kind_row, node_at, nodes_of}
-use Rattle.reading.specs.Tree.{aggregate_of, node_aggregate, node_list, form_of, operator_by, operator_of, operator_at, plan_at}
+use Rattle.reading.specs.Tree.{node_aggregate, node_list, form_of, operator_by, operator_of, operator_at, plan_at}
 use Rattle.reading.specs.Nodes.{arity, operator_columns, operator_in_view, inner_columns, own_columns, kept_columns, first_names, second_names, list_names, test_names, root_in_view}
 use Rattle.reading.specs.declared.kinds.Kind.{Kind}
 use Rattle.reading.specs.declared.kinds.Kind.TheVariants.{Unit, Scan, Select, Project, Distinct, Cross, Semi, Anti, Some, Every, Fold, Each, Pair, Group, Sort, Other}
@@ -69,18 +66,6 @@ kept_one own cs ds =
     (λ a b c d e f g h. absurd (a refl)) (λ a b c d e f g h. absurd (b refl)) (λ a b c d e f g h. refl) (λ a b c d e f g h. absurd (c refl)) (λ a b c d e f g h. absurd (d refl)) (λ a b c d e f g h. absurd (g refl))
     (λ a b c d e f g h. refl) (λ a b c d e f g h. refl) (λ a b c d e f g h. refl) (λ a b c d e f g h. refl) (λ a b c d e f g h. refl) (λ a b c d e f g h. absurd (h refl))
     (λ a b c d e f g h. refl) (λ a b c d e f g h. absurd (e refl)) (λ a b c d e f g h. refl) (λ k a b c d e f g h. absurd (f k refl))
-
--- an aggregate's column; count has none
-pub measured-none : (code column : ℕ) → code ≡ 0 → measured (aggregate_of code column) ≡ []
-measured-none code column e = rw e
-
-pub measured-one : (code column : ℕ) → (code ≡ 0 → ⊥) → measured (aggregate_of code column) ≡ column ∷ []
-measured-one code column e = rw (ne_eqb code 0 e) (by (eqb code 1) (eqb code 2))
-  where
-    by : (a b : Bool) → measured (if a then over sum column else if b then over least column else over greatest column) ≡ column ∷ []
-    by true b = refl
-    by false true = refl
-    by false false = refl
 
 -- ---- the parts make the whole
 

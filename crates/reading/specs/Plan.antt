@@ -186,8 +186,11 @@ node_of v node =
       right = byte_at node 4;
       comparison = comparison_from (byte_at node 5);
       column = byte_at node 6;
-      listed = byte_at node 8;
-      list = byte_at node 9 ∷ byte_at node 10 ∷ byte_at node 11 ∷ byte_at node 12 ∷ byte_at node 13 ∷ byte_at node 14 ∷ byte_at node 15 ∷ [];
+      list =
+          record {
+            ids = byte_at node 9 ∷ byte_at node 10 ∷ byte_at node 11 ∷ byte_at node 12 ∷ byte_at node 13 ∷ byte_at node 14 ∷ byte_at node 15 ∷ [];
+            count = byte_at node 8;
+          };
       negated = eqb (byte_at node 18) 1;
       test = test_of v node;
     }

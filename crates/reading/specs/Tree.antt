@@ -10,6 +10,8 @@ use Rattle.reading.specs.declared.comparison.Comparison.{Comparison as NamedComp
 use Rattle.reading.specs.declared.comparison.Comparison.TheVariants.{Equal, Unequal, Less, AtMost, Greater, AtLeast, Other as Unnamed}
 use Rattle.reading.specs.declared.plan.Test.{Test}
 use Rattle.reading.specs.declared.plan.Test.TheVariants.{Always, Columns, Number}
+use Rattle.reading.specs.declared.plan.AggregateKind.{AggregateKind}
+use Rattle.reading.specs.declared.plan.AggregateKind.TheVariants.{Count, Sum, Least, Greatest}
 use Rattle.reading.specs.declared.plan.Node.{Node}
 
 -- ---- A node's operator
@@ -32,6 +34,13 @@ aggregate_of code column =
     if eqb code 2 then over least column else
     over greatest column
 
+-- the aggregate of a kind, over a column
+abbrev pub aggregate_by : AggregateKind → ℕ → Aggregate
+aggregate_by Count column = count
+aggregate_by Sum column = over sum column
+aggregate_by Least column = over least column
+aggregate_by Greatest column = over greatest column
+
 abbrev pub form_of : Test → Form
 form_of Always = always
 form_of (Columns c l r) = columns_of (comparison_of c) l r
@@ -41,7 +50,7 @@ abbrev pub node_test : Node → MarkedTest
 node_test node = test node.negated (form_of node.test)
 
 abbrev pub node_list : Node → List ℕ
-node_list node = take node.listed node.list
+node_list node = take node.list.count node.list.ids
 
 abbrev pub node_aggregate : Node → Aggregate
 node_aggregate node = aggregate_of node.arg node.column

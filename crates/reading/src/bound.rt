@@ -63,7 +63,7 @@ fn node_bound(set: &[u8], node: Node, first: u16, second: u16) -> u16
     }
 }
 
-// The bound of the tree at place i, by recursion on the nodes that remain.
+// The bound of the tree at place i, by recursion on the nodes that remain: a recursion of its own, as `tree_end` says.
 fn running_bound(set: &[u8], plan: &[u8], i: usize) -> u16
     ensures { result ≡ min (bound (tables_of set.now) (plan_at plan.now i)) 4097 }
 {

@@ -1,5 +1,5 @@
 // Refusal 13: how many columns a node's rows have. 33 stands for every number above 32.
-ghost use Rattle.std.specs.Prelude.{◌≡◌, ◌≤◌, min, length, take};
+ghost use Rattle.std.specs.Prelude.{◌≡◌, ◌≤◌, min};
 ghost use Rattle.algebra.specs.Refusals.{width, narrow};
 ghost use Rattle.reading.specs.Bytes.{all_below};
 ghost use Rattle.reading.specs.TableSet.{tables_of};
@@ -18,14 +18,6 @@ fn capped(x: usize) -> usize
     if x < 33 { x } else { 33 }
 }
 
-// How many ids a list has: its length as written, but no more than there is room for.
-pub fn list_length(list: [u8; 7], listed: u8) -> usize
-    ensures { (result ≤ 7) × (result ≡ length (take listed list)) × (take result list ≡ take listed list) × (result ≡ min listed 7) }
-{
-    let n = listed as usize;
-    if n < 7 { n } else { 7 }
-}
-
 // The columns of a node, of those of its children.
 fn node_columns(set: &[u8], node: Node, first: usize, second: usize) -> usize
     requires { (first ≤ 33) × (second ≤ 33) }
@@ -36,10 +28,7 @@ fn node_columns(set: &[u8], node: Node, first: usize, second: usize) -> usize
             let t = node.arg as usize;
             capped(columns_of(table_from(set, t)))
         }
-        Kind::Project | Kind::Distinct => {
-            let list = node.list;
-            list_length(list, node.listed)
-        }
+        Kind::Project | Kind::Distinct => node.list.len(),
         Kind::Cross | Kind::Each => capped(first + second),
         Kind::Fold | Kind::Pair => capped(first + 1),
         Kind::Group => 2,
@@ -48,7 +37,7 @@ fn node_columns(set: &[u8], node: Node, first: usize, second: usize) -> usize
     }
 }
 
-// The columns of the tree at place i, by recursion on the nodes that remain.
+// The columns of the tree at place i, by recursion on the nodes that remain: a recursion of its own, as `tree_end` says.
 pub fn columns_at(set: &[u8], plan: &[u8], i: usize) -> usize
     ensures { result ≡ min (width (tables_of set.now) (plan_at plan.now i)) 33 }
 {

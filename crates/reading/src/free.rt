@@ -10,7 +10,7 @@ ghost use Rattle.reading.specs.Frees.{Apart, InnerFree, NodeFree, SetWhere, oper
 
 use crate::flags::add_id;
 use crate::kinds::{Kind, children_of};
-use crate::plan::{Node, Test, node_at};
+use crate::plan::{AggregateKind, Node, Test, node_at};
 use crate::tree::{nodes_of, tree_end};
 use crate::view::{add_columns, add_list, test_seen};
 
@@ -62,11 +62,13 @@ fn add_test(flags: [u8; 256], test: Test) -> [u8; 256]
 fn add_measure(flags: [u8; 256], node: Node) -> [u8; 256]
     ensures { Adds flags (measured (node_aggregate node)) result }
 {
-    let aggregate = node.arg;
-    if aggregate == 0 {
-        return flags;
+    match node.aggregate_kind() {
+        AggregateKind::Count => flags,
+        AggregateKind::Sum | AggregateKind::Least | AggregateKind::Greatest => add_id(
+            flags,
+            node.column,
+        ),
     }
-    add_id(flags, node.column)
 }
 
 // Flags what a node names of a row: its aggregate column and its test's columns.
@@ -84,10 +86,7 @@ fn node_names(node: Node) -> [u8; 256]
     let none = [0u8; 256];
     let test = node.test;
     match node.kind {
-        Kind::Project | Kind::Distinct | Kind::Sort => {
-            let list = node.list;
-            add_list(none, list, node.listed)
-        }
+        Kind::Project | Kind::Distinct | Kind::Sort => add_list(none, node.list),
         Kind::Select | Kind::Some | Kind::Every => add_test(none, test),
         Kind::Semi | Kind::Anti => add_id(add_id(add_test(none, test), node.right), node.left),
         Kind::Fold => add_row(none, node),

@@ -1,6 +1,7 @@
 // The plan's bytes: its header, its nodes and their fields.
-ghost use Rattle.std.specs.Prelude.{◌≡◌, ◌+◌, ◌*◌, ◌≤◌, ◌<◌, length, drop};
+ghost use Rattle.std.specs.Prelude.{◌≡◌, ◌+◌, ◌*◌, ◌≤◌, ◌<◌, ◌∷◌, [], min, length, take, drop};
 ghost use Rattle.reading.specs.Plan.{kind_table, test_number, limited, list_allowed, list_ends, test_allowed, count_allowed, fields_allowed, node_part, test_of, node_of, node_at, plan_mark, nodes_allowed, read_plan_as};
+ghost use Rattle.reading.specs.Tree.{aggregate_by, node_aggregate};
 
 use crate::bytes::{byte_at, head, starts_with, tail};
 use crate::comparison::Comparison;
@@ -29,6 +30,54 @@ pub enum Test {
     },
 }
 
+// The ids that a node lists: the first `count` of `ids`. The count is the byte as it is written: in a plan that is not accepted it may be over
+// 7, and then there are the 7 that there is room for.
+#[derive(Clone, Copy, Debug, PartialEq, Eq)]
+pub struct IdList {
+    pub ids: [u8; 7],
+    pub count: u8,
+}
+
+impl IdList {
+    pub const NONE: IdList = IdList {
+        ids: [0; 7],
+        count: 0,
+    };
+
+    // A list of one id.
+    pub fn one(id: u8) -> IdList
+        ensures { result ≡ record { ids = id ∷ 0 ∷ 0 ∷ 0 ∷ 0 ∷ 0 ∷ 0 ∷ []; count = 1 } }
+    {
+        IdList {
+            ids: [id, 0, 0, 0, 0, 0, 0],
+            count: 1,
+        }
+    }
+
+    // How many ids there are: the count, but no more than there is room for.
+    pub fn len(&self) -> usize
+        ensures { (result ≤ 7) × (result ≡ length (take self.now.count self.now.ids)) × (take result self.now.ids ≡ take self.now.count self.now.ids) × (result ≡ min self.now.count 7) }
+    {
+        let n = self.count as usize;
+        if n < 7 { n } else { 7 }
+    }
+
+    pub fn as_slice(&self) -> &[u8]
+        ensures { result.now ≡ take self.now.count self.now.ids }
+    {
+        &self.ids[..self.len()]
+    }
+}
+
+// The four aggregates.
+#[derive(Clone, Copy, Debug, PartialEq, Eq)]
+pub enum AggregateKind {
+    Count,
+    Sum,
+    Least,
+    Greatest,
+}
+
 #[derive(Clone, Copy)]
 pub struct Node {
     pub kind: Kind,
@@ -38,13 +87,28 @@ pub struct Node {
     pub right: u8,
     pub comparison: Comparison,
     pub column: u8,
-    pub listed: u8,
-    pub list: [u8; 7],
+    pub list: IdList,
     pub negated: bool,
     pub test: Test,
 }
 
+impl Node {
+    // Which aggregate the node's argument names; an argument above 2 names the greatest.
+    pub fn aggregate_kind(self) -> AggregateKind
+        ensures { aggregate_by result self.column ≡ node_aggregate self }
+    {
+        match self.arg {
+            0 => AggregateKind::Count,
+            1 => AggregateKind::Sum,
+            2 => AggregateKind::Least,
+            _ => AggregateKind::Greatest,
+        }
+    }
+}
+
 // ---- The fields of a node's bytes
+
+// Kinds and forms are numbers here, since a byte is looked up in the tables of limits before it is known to name anything (`fields_allowed`).
 
 // Whether each of the first n bytes is at most its limit.
 fn bytes_within(n: usize, bytes: &[u8], limits: &[u8]) -> bool
@@ -252,9 +316,12 @@ fn node_of(version: Version, node: &[u8]) -> Node
     let kind = Kind::from(node[0]);
     let comparison = Comparison::from(node[5]);
     let test = test_of(version, node);
-    let list = [
-        node[9], node[10], node[11], node[12], node[13], node[14], node[15],
-    ];
+    let list = IdList {
+        ids: [
+            node[9], node[10], node[11], node[12], node[13], node[14], node[15],
+        ],
+        count: node[8],
+    };
     Node {
         kind,
         arg: node[1],
@@ -263,7 +330,6 @@ fn node_of(version: Version, node: &[u8]) -> Node
         right: node[4],
         comparison,
         column: node[6],
-        listed: node[8],
         list,
         negated: node[18] == 1,
         test,
@@ -291,8 +357,7 @@ pub fn node_at(plan: &[u8], i: usize) -> Node
         right: 0,
         comparison: Comparison::Equal,
         column: 0,
-        listed: 0,
-        list: [0; 7],
+        list: IdList::NONE,
         negated: false,
         test: Test::Always,
     }

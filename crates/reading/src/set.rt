@@ -32,6 +32,7 @@ pub fn word_of_four(b0: u8, b1: u8, b2: u8, b3: u8) -> u64
 }
 
 // The word of a version 2 cell's eight bytes: its signed code plus 2^63.
+#[inline(always)]
 pub fn word(b0: u8, b1: u8, b2: u8, b3: u8, b4: u8, b5: u8, b6: u8, b7: u8) -> u64
     ensures { result ≡ word_of Second (unsigned_at 8 (b0 ∷ b1 ∷ b2 ∷ b3 ∷ b4 ∷ b5 ∷ b6 ∷ b7 ∷ []) 0) }
 {
@@ -84,6 +85,7 @@ impl CellFormat for SecondCells {
 }
 
 // The word of cell i of a table's cells of this format; past the last cell it is blank, 0.
+#[inline(always)]
 fn cell_of<F: CellFormat>(cells: &[u8], i: usize) -> u64
     ensures { result ≡ cell_at F.VERSION cells.now i }
 {
@@ -105,6 +107,7 @@ pub fn cell(version: Version, cells: &[u8], i: usize) -> u64
 }
 
 // Whether a word is that of a number in version 2's range.
+#[inline(always)]
 pub fn number_word(w: u64) -> bool
     ensures { result ≡ in_range w }
 {
@@ -115,6 +118,7 @@ pub fn number_word(w: u64) -> bool
 }
 
 // Whether a word is that of a number in the version's range.
+#[inline(always)]
 pub fn number_as(version: Version, w: u64) -> bool
     ensures { result ≡ within_reach (reach_of version) w }
 {
@@ -130,6 +134,7 @@ pub fn number_as(version: Version, w: u64) -> bool
 }
 
 // Blank, off scale, or a number in the version's range.
+#[inline(always)]
 pub fn cell_allowed(version: Version, w: u64) -> bool
     ensures { result ≡ cell_allowed version w }
 {
@@ -245,6 +250,7 @@ pub fn read_set(version: Version, set: &[u8]) -> Result<usize, Refusal>
 {
     let mut at = 0;
     let mut found = 0;
+    // No count: a step is as long as its table.
     while at < set.len() {
         if found == 8 {
             return Err(Refusal::SetLong);

@@ -15,6 +15,7 @@ pub fn nodes_of(plan: &[u8]) -> usize
     byte_at(plan, 5) as usize
 }
 
+// The end of a tree, its columns, its bound and its need are recursions of their own on the nodes that remain, so that each says its rule whole.
 // The place after the tree at place i, by recursion on the nodes that remain; one past the last place where the tree lacks a child.
 pub fn tree_end(plan: &[u8], i: usize) -> usize
     ensures { result ≡ min (i + size (plan_at plan.now i)) (nodes_of plan.now + 1) }

@@ -8,10 +8,9 @@ ghost use Rattle.reading.specs.Tree.{form_of, node_aggregate, operator_of, plan_
 ghost use Rattle.reading.specs.Flags.{Adds, Flagged, Sees, SeesOnce};
 ghost use Rattle.reading.specs.Nodes.{NamesSeen, RootSeen, TreeSeen, first_names, inner_columns, list_names, own_columns, second_names, test_names};
 
-use crate::columns::list_length;
 use crate::flags::{add_id, add_ids};
 use crate::kinds::{Kind, children_of};
-use crate::plan::{Node, Test, node_at};
+use crate::plan::{AggregateKind, IdList, Node, Test, node_at};
 use crate::set::{columns_of, table_from};
 use crate::tree::{nodes_of, tree_end};
 
@@ -47,12 +46,11 @@ pub fn test_seen(flags: [u8; 256], test: Test) -> bool
 }
 
 // Whether a list's ids are flagged, and none stands twice: an id that was met loses its flag.
-fn list_seen(flags: [u8; 256], list: [u8; 7], listed: u8) -> bool
-    ensures { SeesOnce flags (take listed list) result }
+fn list_seen(flags: [u8; 256], list: IdList) -> bool
+    ensures { SeesOnce flags (take list.count list.ids) result }
 {
-    let count = list_length(list, listed);
     let mut left = flags;
-    for id in &list[..count] {
+    for id in list.as_slice() {
         let at = *id as usize;
         if left[at] != 1 {
             return false;
@@ -63,12 +61,11 @@ fn list_seen(flags: [u8; 256], list: [u8; 7], listed: u8) -> bool
 }
 
 // Flags the ids of a node's list.
-pub fn add_list(flags: [u8; 256], list: [u8; 7], listed: u8) -> [u8; 256]
-    ensures { Adds flags (take listed list) result }
+pub fn add_list(flags: [u8; 256], list: IdList) -> [u8; 256]
+    ensures { Adds flags (take list.count list.ids) result }
 {
-    let count = list_length(list, listed);
     let mut marks = flags;
-    for id in &list[..count] {
+    for id in list.as_slice() {
         marks[*id as usize] = 1;
     }
     marks
@@ -81,10 +78,7 @@ fn add_own(flags: [u8; 256], set: &[u8], node: Node) -> [u8; 256]
     let id = node.id;
     match node.kind {
         Kind::Scan => add_ids(flags, id, columns_of(table_from(set, node.arg as usize))),
-        Kind::Project | Kind::Distinct => {
-            let list = node.list;
-            add_list(flags, list, node.listed)
-        }
+        Kind::Project | Kind::Distinct => add_list(flags, node.list),
         Kind::Fold | Kind::Pair => add_id(flags, id),
         Kind::Group => add_id(add_id(flags, id), node.left),
         _ => flags,
@@ -116,11 +110,13 @@ pub fn add_columns(flags: [u8; 256], set: &[u8], plan: &[u8], i: usize) -> [u8; 
 fn measure_seen(flags: [u8; 256], node: Node) -> bool
     ensures { Sees flags (measured (node_aggregate node)) result }
 {
-    let aggregate = node.arg;
-    if aggregate == 0 {
-        return true;
+    match node.aggregate_kind() {
+        AggregateKind::Count => true,
+        AggregateKind::Sum | AggregateKind::Least | AggregateKind::Greatest => flagged(
+            flags,
+            node.column,
+        ),
     }
-    flagged(flags, node.column)
 }
 
 // Whether a node's right key and its aggregate column are flagged.
@@ -181,10 +177,7 @@ fn listed_seen(flags: [u8; 256], node: Node) -> bool
     ensures { SeesOnce flags (list_names node.kind node) result }
 {
     match node.kind {
-        Kind::Project | Kind::Distinct | Kind::Sort => {
-            let list = node.list;
-            list_seen(flags, list, node.listed)
-        }
+        Kind::Project | Kind::Distinct | Kind::Sort => list_seen(flags, node.list),
         _ => true,
     }
 }

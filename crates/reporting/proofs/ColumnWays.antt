@@ -26,6 +26,8 @@ use Rattle.reading.proofs.Places.{upward-more}
 use Rattle.reading.proofs.Trees.{plan_past, plan_case, first_tree, second_tree, second_at}
 use Rattle.reading.proofs.Ends.{end_at}
 use Rattle.reporting.specs.Columns.{unary_way, columns_way, own_columns}
+use Rattle.reporting.specs.declared.columns.ColumnsWay.{ColumnsWay}
+use Rattle.reporting.specs.declared.columns.ColumnsWay.TheVariants.{Own, First, FirstAndNew, Both}
 use Rattle.reporting.specs.Evaluation.{Sound}
 use Rattle.reporting.proofs.Soundness.{sound_child, sound-left, sound-right}
 
@@ -68,24 +70,23 @@ module _ (set : List ℕ) (node : Node) where
       let P : Kind → Type 0 = λ k. own_by k ≡ node_list node in
       one_of P refl (just P refl)
 
-  pub own-none : (node.kind ≡ Scan → ⊥) → (node.kind ≡ Project → ⊥) → (node.kind ≡ Distinct → ⊥) → (node.kind ≡ Group → ⊥) → columns_way (operator_of node) ≡ 0 → own_by node.kind ≡ []
+  pub own-none : (node.kind ≡ Scan → ⊥) → (node.kind ≡ Project → ⊥) → (node.kind ≡ Distinct → ⊥) → (node.kind ≡ Group → ⊥) → columns_way (operator_of node) ≡ Own → own_by node.kind ≡ []
   unfolding operator_by
   own-none =
-      each_kind (λ k. (k ≡ Scan → ⊥) → (k ≡ Project → ⊥) → (k ≡ Distinct → ⊥) → (k ≡ Group → ⊥) → columns_way (operator_by k node) ≡ 0 → own_by k ≡ [])
+      each_kind (λ k. (k ≡ Scan → ⊥) → (k ≡ Project → ⊥) → (k ≡ Distinct → ⊥) → (k ≡ Group → ⊥) → columns_way (operator_by k node) ≡ Own → own_by k ≡ [])
       (λ a b c d e. refl) (λ a b c d e. absurd (a refl)) (λ a b c d e. refl) (λ a b c d e. absurd (b refl)) (λ a b c d e. absurd (c refl))
-      (λ a b c d e. refl) (λ a b c d e. refl) (λ a b c d e. refl) (λ a b c d e. refl) (λ a b c d e. refl) (λ a b c d e. absurd (omega arith))
-      (λ a b c d e. refl) (λ a b c d e. absurd (omega arith)) (λ a b c d e. absurd (d refl)) (λ a b c d e. refl)
+      (λ a b c d e. refl) (λ a b c d e. refl) (λ a b c d e. refl) (λ a b c d e. refl) (λ a b c d e. refl) (λ a b c d e. absurd (cc))
+      (λ a b c d e. refl) (λ a b c d e. absurd (cc)) (λ a b c d e. absurd (d refl)) (λ a b c d e. refl)
       (λ k a b c d e. refl) node.kind
 
 -- ---- the columns of a tree
 
 -- what the way says, cs and ds the children's columns
-abbrev made : Tables → Node → List ℕ → List ℕ → Kind → ℕ → List ℕ
-made T node cs ds k zero = own_columns T (operator_by k node)
-made T node cs ds k (suc zero) = cs
-made T node cs ds k (suc (suc zero)) = cs ++ (node.id ∷ [])
-made T node cs ds k (suc (suc (suc zero))) = cs ++ ds
-made T node cs ds k (suc (suc (suc (suc way)))) = cs
+abbrev made : Tables → Node → List ℕ → List ℕ → Kind → ColumnsWay → List ℕ
+made T node cs ds k Own = own_columns T (operator_by k node)
+made T node cs ds k First = cs
+made T node cs ds k FirstAndNew = cs ++ (node.id ∷ [])
+made T node cs ds k Both = cs ++ ds
 
 module _ (T : Tables) (node : Node) (cs ds : List ℕ) where
   made_by : (k : Kind) → operator_columns T (operator_by k node) cs ds ≡ made T node cs ds k (columns_way (operator_by k node))
@@ -94,26 +95,18 @@ module _ (T : Tables) (node : Node) (cs ds : List ℕ) where
       each_kind (λ k. operator_columns T (operator_by k node) cs ds ≡ made T node cs ds k (columns_way (operator_by k node)))
       refl refl refl refl refl refl refl refl refl refl refl refl refl refl refl (λ k. refl)
 
-  made-first : (k : Kind) (way : ℕ) → (way ≡ 0 → ⊥) → (way ≡ 2 → ⊥) → (way ≡ 3 → ⊥) → made T node cs ds k way ≡ cs
-  made-first k zero a b c = absurd (a refl)
-  made-first k (suc zero) a b c = refl
-  made-first k (suc (suc zero)) a b c = absurd (b refl)
-  made-first k (suc (suc (suc zero))) a b c = absurd (c refl)
-  made-first k (suc (suc (suc (suc way)))) a b c = refl
+  made-fits : (k : Kind) (way : ColumnsWay) → (way ≡ Own → ⊥) → length cs ≤ length (made T node cs ds k way)
+  made-fits k Own a = absurd (a refl)
+  made-fits k First a = omega arith
+  made-fits k FirstAndNew a = simp length-append (omega arith)
+  made-fits k Both a = simp length-append (omega arith)
 
-  made-fits : (k : Kind) (way : ℕ) → (way ≡ 0 → ⊥) → length cs ≤ length (made T node cs ds k way)
-  made-fits k zero a = absurd (a refl)
-  made-fits k (suc zero) a = omega arith
-  made-fits k (suc (suc zero)) a = simp length-append (omega arith)
-  made-fits k (suc (suc (suc zero))) a = simp length-append (omega arith)
-  made-fits k (suc (suc (suc (suc way)))) a = omega arith
-
-not-both : (u : Unary) → unary_way u ≡ 3 → ⊥
-not-both (select t) e = omega arith
-not-both (project ids) e = omega arith
-not-both (distinct ids) e = omega arith
-not-both (group g n l r c t) e = omega arith
-not-both (sort d ids) e = omega arith
+not-both : (u : Unary) → unary_way u ≡ Both → ⊥
+not-both (select t) e = cc
+not-both (project ids) e = cc
+not-both (distinct ids) e = cc
+not-both (group g n l r c t) e = cc
+not-both (sort d ids) e = cc
 
 -- the first r ids are these
 abbrev Front : List ℕ → ℕ → List ℕ → Type 0
@@ -125,12 +118,12 @@ unfolding columns
 front-past T plan i ids h = rw (plan_past plan i h) (refl, refl)
 
 -- the node that was read at a place, and how its columns are made
-pub record ReadAt (plan : List ℕ) (i : ℕ) (node : Node) (way : ℕ) : Type 0 where
+pub record ReadAt (plan : List ℕ) (i : ℕ) (node : Node) (way : ColumnsWay) : Type 0 where
   pub inside : i < nodes_of plan
   pub is : node ≡ node_at plan i
   pub made_so : way ≡ columns_way (operator_of node)
 
-module _ (T : Tables) {plan : List ℕ} {i : ℕ} {node : Node} {way : ℕ} (r : ReadAt plan i node way) where
+module _ (T : Tables) {plan : List ℕ} {i : ℕ} {node : Node} {way : ColumnsWay} (r : ReadAt plan i node way) where
   at : way ≡ columns_way (operator_at plan i)
   at = r.made_so ∙ ap (λ (x : Node). columns_way (operator_of x)) r.is
 
@@ -151,24 +144,24 @@ module _ (T : Tables) {plan : List ℕ} {i : ℕ} {node : Node} {way : ℕ} (r :
       (λ u t. (all_append byte (unary_new u) (introduced T (first_tree plan i)) t.small).0)
       (λ b t. (all_append byte (binary_new b) (introduced T (first_tree plan i) ++ introduced T (second_tree plan i)) t.small).0) r.inside s
 
-  pub own-columns : way ≡ 0 → columns T (plan_at plan i) ≡ own_columns T (operator_of node)
+  pub own-columns : way ≡ Own → columns T (plan_at plan i) ≡ own_columns T (operator_of node)
   own-columns k = columns-made ∙ ap (made T node (columns T (first_tree plan i)) (columns T (second_tree plan i)) node.kind) k
 
   -- the first child
-  module _ (k : way ≡ 0 → ⊥) where
+  module _ (k : way ≡ Own → ⊥) where
     pub first-sound : Sound T (plan_at plan i) → Sound T (plan_at plan (i + 1))
     first-sound =
-        plan_case plan i (λ op p. (columns_way op ≡ 0 → ⊥) → Sound T p → Sound T (first_tree plan i))
+        plan_case plan i (λ op p. (columns_way op ≡ Own → ⊥) → Sound T p → Sound T (first_tree plan i))
         (λ x n t. absurd (n refl)) (λ u n t. sound_child t) (λ b n t. sound-left t) r.inside (λ z. k (at ∙ z))
 
     pub first_fits : width T (plan_at plan (i + 1)) ≤ width T (plan_at plan i)
     first_fits = rw columns-made (made-fits T node (columns T (first_tree plan i)) (columns T (second_tree plan i)) node.kind way k)
 
-    pub front-first : (way ≡ 3 → ⊥) → (way ≡ 2 → ⊥) → (w : ℕ) (ids : List ℕ) → Front (columns T (plan_at plan (i + 1))) w ids → Front (columns T (plan_at plan i)) w ids
-    front-first a b w ids f = rw (columns-made, made-first T node (columns T (first_tree plan i)) (columns T (second_tree plan i)) node.kind way k b a) f
+  pub front-first : way ≡ First → (w : ℕ) (ids : List ℕ) → Front (columns T (plan_at plan (i + 1))) w ids → Front (columns T (plan_at plan i)) w ids
+  front-first k w ids f = rw (columns-made ∙ ap (made T node (columns T (first_tree plan i)) (columns T (second_tree plan i)) node.kind) k) f
 
   -- the first child's columns, and then the new id
-  module _ (k : way ≡ 2) where
+  module _ (k : way ≡ FirstAndNew) where
     more-columns : columns T (plan_at plan i) ≡ columns T (plan_at plan (i + 1)) ++ (node.id ∷ [])
     more-columns = columns-made ∙ ap (made T node (columns T (first_tree plan i)) (columns T (second_tree plan i)) node.kind) k
 
@@ -182,12 +175,12 @@ module _ (T : Tables) {plan : List ℕ} {i : ℕ} {node : Node} {way : ℕ} (r :
     )
 
   -- both children's columns, the second at place j
-  module _ (k : way ≡ 3) (j : ℕ) (d : j ≡ end_at plan (i + 1)) where
+  module _ (k : way ≡ Both) (j : ℕ) (d : j ≡ end_at plan (i + 1)) where
     pub second-sound : Sound T (plan_at plan i) → Sound T (plan_at plan j)
     second-sound =
         rw (second_at plan i j d)
-        (plan_case plan i (λ op p. columns_way op ≡ 3 → Sound T p → Sound T (second_tree plan i))
-        (λ x n t. absurd (omega arith)) (λ u n t. absurd (not-both u n)) (λ b n t. sound-right t) r.inside (sym at ∙ k))
+        (plan_case plan i (λ op p. columns_way op ≡ Both → Sound T p → Sound T (second_tree plan i))
+        (λ x n t. absurd (cc)) (λ u n t. absurd (not-both u n)) (λ b n t. sound-right t) r.inside (sym at ∙ k))
 
     both-columns : columns T (plan_at plan i) ≡ columns T (plan_at plan (i + 1)) ++ columns T (plan_at plan j)
     both-columns = rw (second_at plan i j d) (columns-made ∙ ap (made T node (columns T (first_tree plan i)) (columns T (second_tree plan i)) node.kind) k)

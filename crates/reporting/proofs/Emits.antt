@@ -15,12 +15,12 @@ use Rattle.algebra.proofs.Lists.{all_any}
 use Rattle.reading.specs.declared.kinds.Kind.{Kind}
 use Rattle.reading.specs.declared.kinds.Kind.TheVariants.{Cross, Semi, Anti, Some, Every, Fold, Each, Pair}
 use Rattle.reading.specs.declared.plan.Node.{Node}
-use Rattle.reading.specs.Tree.{operator_by, operator_of, node_test}
+use Rattle.reading.specs.Tree.{aggregate_by, operator_by, operator_of, node_test}
 use Rattle.reading.specs.Nodes.{arity}
 use Rattle.reading.proofs.Operators.{each_kind, one_of, just}
 use Rattle.reporting.specs.Rows.{chunk, row_at, rows_from, Gives, passing, aggregate_in, gathered, emitted}
 use Rattle.reporting.specs.Keys.{has_test, keeps_rows, has_keys, key_comparison, keys_hold}
-use Rattle.reporting.specs.Sides.{aggregate_by, in_both, compared_holds, condition_holds, FoundInside, meets, found_cell, FoundFor, turned_test, turned_found, is_anti, keeps_row}
+use Rattle.reporting.specs.Sides.{in_both, compared_holds, condition_holds, FoundInside, meets, found_cell, FoundFor, turned_test, turned_found, is_anti, keeps_row}
 use Rattle.reporting.specs.Written.{Written, Emitted, joined_rows, JoinGiven, EachGiven}
 use Rattle.reporting.specs.Evaluation.{StepRoom, PlainStep, EmitGiven}
 use Rattle.reporting.specs.declared.side.Condition.{Condition}

@@ -14,7 +14,7 @@ use Rattle.algebra.specs.Lists.{same, any, firsts, flat_map}
 use Rattle.algebra.specs.Cells.{aggregate}
 use Rattle.algebra.specs.Plans.{Row, Env, bind, emit_within, act_within}
 use Rattle.algebra.proofs.Lists.{any-map}
-use Rattle.reading.specs.Tree.{operator_of, operator_by}
+use Rattle.reading.specs.Tree.{aggregate_by, operator_of, operator_by}
 use Rattle.reading.specs.declared.kinds.Kind.{Kind}
 use Rattle.reading.specs.declared.kinds.Kind.TheVariants.{Group}
 use Rattle.reading.specs.declared.plan.Node.{Node}
@@ -22,7 +22,7 @@ use Rattle.reporting.specs.Grouping.{key_row, grouped_by, KeyWritten}
 use Rattle.reporting.specs.Index.{before}
 use Rattle.reporting.specs.Keys.{has_test}
 use Rattle.reporting.specs.Rows.{chunk, Gives, acted, gathered, passing, aggregate_in}
-use Rattle.reporting.specs.Sides.{aggregate_by, FoundInside, FoundFor, found_cells, found_cell}
+use Rattle.reporting.specs.Sides.{FoundInside, FoundFor, found_cells, found_cell}
 use Rattle.reporting.specs.declared.side.Found.{Found}
 use Rattle.reporting.proofs.Chunks.{mono, turns, times_suc, next_row, chunk_snoc, chunk-same, paste-front, paste-row, paste-rest}
 use Rattle.reporting.proofs.Copies.{written-cell}

@@ -13,14 +13,14 @@ use Rattle.algebra.specs.Lists.{flip, filter, any}
 use Rattle.algebra.specs.Cells.{Aggregate, count, origin, is_number, eq, compares, aggregate, aggregate_within}
 use Rattle.algebra.specs.Plans.{Row, Env}
 use Rattle.algebra.proofs.Lists.{filter_out, any-count}
-use Rattle.reading.specs.Tree.{comparison_of, node_aggregate}
+use Rattle.reading.specs.Tree.{aggregate_by, comparison_of, node_aggregate}
 use Rattle.reading.specs.declared.kinds.Kind.{Kind}
 use Rattle.reading.specs.declared.plan.Node.{Node}
 use Rattle.reading.proofs.Operators.{each_kind}
 use Rattle.reporting.specs.Index.{before}
 use Rattle.reporting.specs.Keys.{keeps_rows, has_aggregate}
 use Rattle.reporting.specs.Known.{side_shared, compared_shared, Shared, SharedIf, key_number, Known}
-use Rattle.reporting.specs.Sides.{side_cell, aggregate_by, compared_holds, condition_holds, Equals, meets, found_cells, found_cell, FoundFor}
+use Rattle.reporting.specs.Sides.{side_cell, compared_holds, condition_holds, Equals, meets, found_cells, found_cell, FoundFor}
 use Rattle.reporting.specs.declared.side.Side.{Side}
 use Rattle.reporting.specs.declared.side.Side.TheVariants.{Left, Right, Word}
 use Rattle.reporting.specs.declared.side.Compared.{Compared}

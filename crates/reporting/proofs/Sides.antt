@@ -15,7 +15,7 @@ use Rattle.algebra.specs.Lists.{flip, filter, member}
 use Rattle.algebra.specs.Cells.{is_number, one_blank, eq, compares, aggregate, aggregate_within}
 use Rattle.algebra.specs.Plans.{Row, Env, bind, test, truth, holds, gather_within}
 use Rattle.algebra.proofs.Cells.{eqb-sym}
-use Rattle.reading.specs.Tree.{comparison_of, form_of, node_test, operator_of}
+use Rattle.reading.specs.Tree.{aggregate_by, comparison_of, form_of, node_test, operator_of}
 use Rattle.reading.specs.declared.comparison.Comparison.{Comparison}
 use Rattle.reading.specs.declared.comparison.Comparison.TheVariants.{Equal as SameCells}
 use Rattle.reading.specs.declared.plan.Node.{Node}
@@ -25,9 +25,9 @@ use Rattle.reporting.specs.Index.{bucket_of, slot_of}
 use Rattle.reporting.specs.Keys.{has_test, has_keys, key_comparison, keys_hold}
 use Rattle.reporting.specs.Positions.{place_of}
 use Rattle.reporting.specs.Rows.{passing, gathered}
-use Rattle.reporting.specs.Sides.{side_cell, SideInside, SideFor, aggregate_by, in_both, compared_holds, condition_holds, ComparedInside, ConditionInside, ConditionFor, side_places, Equals, PlacesFor, FoundInside, meets, found_cells, found_cell, FoundFor, FoundSomewhere}
-use Rattle.reporting.specs.declared.gather.AggregateKind.{AggregateKind}
-use Rattle.reporting.specs.declared.gather.AggregateKind.TheVariants.{Count, Sum, Least, Greatest}
+use Rattle.reporting.specs.Sides.{side_cell, SideInside, SideFor, in_both, compared_holds, condition_holds, ComparedInside, ConditionInside, ConditionFor, side_places, Equals, PlacesFor, FoundInside, meets, found_cells, found_cell, FoundFor, FoundSomewhere}
+use Rattle.reading.specs.declared.plan.AggregateKind.{AggregateKind}
+use Rattle.reading.specs.declared.plan.AggregateKind.TheVariants.{Count, Sum, Least, Greatest}
 use Rattle.reporting.specs.declared.side.Side.{Side}
 use Rattle.reporting.specs.declared.side.Side.TheVariants.{Left, Right, Word}
 use Rattle.reporting.specs.declared.side.Compared.{Compared}

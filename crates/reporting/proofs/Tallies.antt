@@ -14,7 +14,8 @@ use Rattle.algebra.specs.Plans.{Row}
 use Rattle.algebra.proofs.Lists.{filter-length}
 use Rattle.algebra.proofs.Cells.{eqb-sym}
 use Rattle.algebra.proofs.Places.{next-less}
-use Rattle.reporting.specs.Sides.{side_cell, aggregate_by, FoundInside, meets, found_cells, found_cell}
+use Rattle.reading.specs.Tree.{aggregate_by}
+use Rattle.reporting.specs.Sides.{side_cell, FoundInside, meets, found_cells, found_cell}
 use Rattle.reporting.specs.Tallies.{not_blank, sum_in, Tallies, Bounded, lesser, added, tally_summary, tallied}
 use Rattle.reporting.specs.declared.gather.Tally.{Tally}
 use Rattle.reporting.specs.declared.side.Found.{Found}

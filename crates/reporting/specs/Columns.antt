@@ -3,25 +3,27 @@ use Rattle.std.specs.Prelude.{ℕ, ◌≡◌, List, [], length, take}
 use Rattle.algebra.specs.Plans.{Tables, Unary, select, project, distinct, group, sort, Binary, cross, semi, quant, fold, each, pair}
 use Rattle.algebra.specs.Places.{Operator, leaf_node, unary_node, binary_node}
 use Rattle.reading.specs.Nodes.{operator_columns}
+use Rattle.reporting.specs.declared.columns.ColumnsWay.{ColumnsWay}
+use Rattle.reporting.specs.declared.columns.ColumnsWay.TheVariants.{Own, First, FirstAndNew, Both}
 
--- 0 the node's own alone, 1 the first child's, 2 the first child's and then the new id, 3 the first child's and then the second's
-abbrev pub unary_way : Unary → ℕ
-unary_way (select t) = 1
-unary_way (project ids) = 0
-unary_way (distinct ids) = 0
-unary_way (group g n l r c t) = 0
-unary_way (sort d ids) = 1
+-- the node's own alone, the first child's, the first child's and then the new id, or the first child's and then the second's
+abbrev pub unary_way : Unary → ColumnsWay
+unary_way (select t) = First
+unary_way (project ids) = Own
+unary_way (distinct ids) = Own
+unary_way (group g n l r c t) = Own
+unary_way (sort d ids) = First
 
-abbrev pub binary_way : Binary → ℕ
-binary_way cross = 3
-binary_way (semi m l r t) = 1
-binary_way (quant m t) = 1
-binary_way (fold g n t) = 2
-binary_way each = 3
-binary_way (pair g n l r c t) = 2
+abbrev pub binary_way : Binary → ColumnsWay
+binary_way cross = Both
+binary_way (semi m l r t) = First
+binary_way (quant m t) = First
+binary_way (fold g n t) = FirstAndNew
+binary_way each = Both
+binary_way (pair g n l r c t) = FirstAndNew
 
-abbrev pub columns_way : Operator → ℕ
-columns_way (leaf_node x) = 0
+abbrev pub columns_way : Operator → ColumnsWay
+columns_way (leaf_node x) = Own
 columns_way (unary_node u) = unary_way u
 columns_way (binary_node b) = binary_way b
 

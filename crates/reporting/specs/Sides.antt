@@ -2,16 +2,15 @@
 -- contracts speak of these. Definitions only.
 use Rattle.std.specs.Prelude.{ℕ, ◌<◌, Bool, true, false, ◌&&◌, ◌≡◌, Option, Some, None, List, map, length, get_or}
 use Rattle.algebra.specs.Lists.{flip, filter, any}
-use Rattle.algebra.specs.Cells.{eq, compares, Aggregate, count, over, sum, least, greatest, aggregate}
+use Rattle.algebra.specs.Cells.{eq, compares, aggregate}
 use Rattle.algebra.specs.Plans.{Row, Env, bind, measure, holds}
-use Rattle.reading.specs.Tree.{comparison_of, node_test, operator_of}
+use Rattle.reading.specs.Tree.{aggregate_by, comparison_of, node_test, operator_of}
 use Rattle.reading.specs.declared.kinds.Kind.{Kind}
 use Rattle.reading.specs.declared.kinds.Kind.TheVariants.{Anti, Every}
+use Rattle.reading.specs.declared.plan.AggregateKind.{AggregateKind}
 use Rattle.reading.specs.declared.plan.Node.{Node}
 use Rattle.reporting.specs.Keys.{keys_hold}
 use Rattle.reporting.specs.Rows.{aggregate_in}
-use Rattle.reporting.specs.declared.gather.AggregateKind.{AggregateKind}
-use Rattle.reporting.specs.declared.gather.AggregateKind.TheVariants.{Count, Sum, Least, Greatest}
 use Rattle.reporting.specs.declared.side.Side.{Side}
 use Rattle.reporting.specs.declared.side.Side.TheVariants.{Left, Right, Word}
 use Rattle.reporting.specs.declared.side.Compared.{Compared}
@@ -41,13 +40,6 @@ in_both cs ds env l r = bind ds r (bind cs l env)
 pub record SideFor (cs ds : List ℕ) (env : Env) (id : ℕ) (s : Side) : Type 0 where
   pub cell : (l r : Row) → side_cell s l r ≡ in_both cs ds env l r id
   pub inside : SideInside s (length cs) (length ds)
-
--- the aggregate of a kind, over a column
-abbrev pub aggregate_by : AggregateKind → ℕ → Aggregate
-aggregate_by Count column = count
-aggregate_by Sum column = over sum column
-aggregate_by Least column = over least column
-aggregate_by Greatest column = over greatest column
 
 -- the side of what an aggregate measures, by its kind and its column
 pub record MeasuredFor (cs ds : List ℕ) (env : Env) (kind : AggregateKind) (id : ℕ) (s : Side) : Type 0 where

@@ -8,7 +8,6 @@ use crate::distinct::distinct_front;
 use crate::group::group;
 use crate::select::{project, select};
 use crate::sort::sort_by;
-use reading::columns::list_length;
 use reading::kinds::Kind;
 use reading::plan::Node;
 
@@ -25,19 +24,18 @@ pub(crate) fn act(
     requires unary_room { UnaryRoom (operator_of node) ids.now own m (length cells.old) }
     ensures { UnaryGiven (operator_of node) ids.now env.now own m cells.old result cells.new }
 {
-    let list = node.list;
-    let n = list_length(list, node.listed);
+    let list = node.list.as_slice();
     match node.kind {
         Kind::Select => {
             let form = node.test;
             select(node.negated, form, cells, own, m, ids, env)
         }
         Kind::Group => group(node, cells, own, m, ids, env),
-        Kind::Sort => sort_by(cells, own, m, ids, &list[0..n], node.arg == 1),
-        Kind::Project => project(cells, own, m, ids, &list[0..n], env),
+        Kind::Sort => sort_by(cells, own, m, ids, list, node.arg == 1),
+        Kind::Project => project(cells, own, m, ids, list, env),
         _ => {
-            let given = project(cells, own, m, ids, &list[0..n], env);
-            distinct_front(cells, given, n)
+            let given = project(cells, own, m, ids, list, env);
+            distinct_front(cells, given, list.len())
         }
     }
 }

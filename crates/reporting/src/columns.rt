@@ -6,10 +6,11 @@ ghost use Rattle.reading.specs.TableSet.{tables_of};
 ghost use Rattle.reading.specs.Tree.{operator_of, node_list};
 ghost use Rattle.reading.specs.Nodes.{operator_new};
 ghost use Rattle.reporting.specs.Columns.{columns_way, own_columns, IdsWritten};
+ghost use Rattle.reporting.specs.declared.columns.ColumnsWay.TheVariants.{Own};
 ghost use Rattle.reporting.specs.Evaluation.{columns_at, width_at, share_at, part_at, SoundAt};
 
 use reading::bound::bound_at;
-use reading::columns::{columns_at, list_length};
+use reading::columns::columns_at;
 use reading::kinds::Kind;
 use reading::need::{counted_rows, part_at};
 use reading::plan::{Node, node_at};
@@ -59,29 +60,37 @@ fn ids_listed(ids: &mut [u8], node: Node) -> usize
     requires { length (node_list node) ≤ length ids.old }
     ensures { IdsWritten (node_list node) result ids.new }
 {
-    let list = node.list;
-    let n = list_length(list, node.listed);
-    copy_ids(ids, &list[0..n]);
-    n
+    let list = node.list.as_slice();
+    copy_ids(ids, list);
+    list.len()
 }
 
-// How a node's columns are made: 0 of the node alone, 1 they are the first child's, 2 the first child's and then the new id, 3 the
-// first child's and then the second's.
-fn columns_way(node: Node) -> u8
+// How a node's columns are made: they are its own alone, the first child's, the first child's and then the new id, or the first child's and
+// then the second's.
+#[derive(Clone, Copy)]
+pub enum ColumnsWay {
+    Own,
+    First,
+    FirstAndNew,
+    Both,
+}
+
+fn columns_way(node: Node) -> ColumnsWay
     ensures { result ≡ columns_way (operator_of node) }
 {
     match node.kind {
         Kind::Unit | Kind::Scan | Kind::Project | Kind::Distinct | Kind::Group | Kind::Other(_) =>
-            0,
-        Kind::Select | Kind::Semi | Kind::Anti | Kind::Some | Kind::Every | Kind::Sort => 1,
-        Kind::Fold | Kind::Pair => 2,
-        Kind::Cross | Kind::Each => 3,
+            ColumnsWay::Own,
+        Kind::Select | Kind::Semi | Kind::Anti | Kind::Some | Kind::Every | Kind::Sort =>
+            ColumnsWay::First,
+        Kind::Fold | Kind::Pair => ColumnsWay::FirstAndNew,
+        Kind::Cross | Kind::Each => ColumnsWay::Both,
     }
 }
 
 // Writes the ids of a node whose columns are its own alone: Scan, Project, Distinct, Group; a Unit has none.
 fn own_ids(set: &[u8], node: Node, ids: &mut [u8]) -> usize
-    requires node_value { (columns_way (operator_of node) ≡ 0) × (all byte (operator_new (tables_of set.now) (operator_of node)) ≡ true) }
+    requires node_value { (columns_way (operator_of node) ≡ Own) × (all byte (operator_new (tables_of set.now) (operator_of node)) ≡ true) }
     requires node_in_bounds { length (own_columns (tables_of set.now) (operator_of node)) ≤ length ids.old }
     ensures { IdsWritten (own_columns (tables_of set.now) (operator_of node)) result ids.new }
 {
@@ -113,18 +122,18 @@ pub(crate) fn columns_into(set: &[u8], plan: &[u8], i: usize, ids: &mut [u8]) ->
         return 0;
     }
     let node = node_at(plan, i);
-    let way = columns_way(node);
-    if way == 0 {
-        return own_ids(set, node, ids);
+    match columns_way(node) {
+        ColumnsWay::Own => own_ids(set, node, ids),
+        ColumnsWay::First => columns_into(set, plan, i + 1, ids),
+        ColumnsWay::FirstAndNew => {
+            let w = columns_into(set, plan, i + 1, ids);
+            ids[w] = node.id;
+            w + 1
+        }
+        ColumnsWay::Both => {
+            let w = columns_into(set, plan, i + 1, ids);
+            let j = tree_end(plan, i + 1);
+            w + columns_into(set, plan, j, &mut ids[w..])
+        }
     }
-    let w = columns_into(set, plan, i + 1, ids);
-    if way == 3 {
-        let j = tree_end(plan, i + 1);
-        return w + columns_into(set, plan, j, &mut ids[w..]);
-    }
-    if way == 2 {
-        ids[w] = node.id;
-        return w + 1;
-    }
-    w
 }

@@ -4,7 +4,7 @@ ghost use Rattle.algebra.specs.Lists.{same, any, firsts};
 ghost use Rattle.reporting.specs.Index.{row_slot, downward, Index};
 ghost use Rattle.reporting.specs.Rows.{chunk, Gives};
 
-use crate::index::{FEW, hash_row, link, wide};
+use crate::index::{FEW, hash_row, link};
 use crate::rows::copy_row;
 
 // Whether two rows agree.
@@ -48,8 +48,9 @@ fn seen_linked(
     requires index { Index row_slot (chunk k w cells.now) (downward k) heads.now next.now }
     ensures { result ≡ any (λ q. same q (take w (drop src cells.now))) (chunk k w cells.now) }
 {
-    let mut h = wide(heads[b]);
+    let mut h = heads[b] as usize;
     let mut steps = 0;
+    // along the chain, which no count walks
     while 0 < h {
         if steps == LONG_CHAIN {
             return seen(cells, k, src, w);
@@ -60,7 +61,7 @@ fn seen_linked(
         if same_row(&cells[at..at + w], &cells[src..src + w]) {
             return true;
         }
-        h = wide(next[i]);
+        h = next[i] as usize;
     }
     false
 }

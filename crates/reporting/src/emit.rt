@@ -85,7 +85,7 @@ fn aggregate(asked: &Asked, lookup: Lookup, cells: &[u64], src: usize, known: &m
 }
 
 // Whether the left row at src meets some right row. Aggregates that are kept count the right rows that are met, and 9223372036854775808 is
-// the number 0.
+// the number 0. The arms are those of `aggregate`, and the calls are others: one function over both would be longer.
 #[inline(always)]
 fn meets_some(asked: &Asked, lookup: Lookup, cells: &[u64], src: usize, known: &mut [u64]) -> bool
     requires keeps { keeps_rows asked.now.node.kind ≡ true }

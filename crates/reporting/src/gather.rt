@@ -1,11 +1,11 @@
 // The four aggregates.
 ghost use Rattle.std.specs.Prelude.{◌≡◌, cond, ◌||◌, [], ℕ, ◌+◌, ◌*◌, ◌-◌, ◌≤◌, ◌<◌, max, ltb, length, drop};
 ghost use Rattle.algebra.specs.Cells.{blank, sum_of};
-ghost use Rattle.reading.specs.Tree.{operator_of};
+ghost use Rattle.reading.specs.Tree.{aggregate_by, operator_of};
 ghost use Rattle.reporting.specs.Held.{held_in, RowsInside, Indexed};
 ghost use Rattle.reporting.specs.Known.{Shared, Known};
 ghost use Rattle.reporting.specs.Rows.{aggregate_in};
-ghost use Rattle.reporting.specs.Sides.{aggregate_by, found_cell};
+ghost use Rattle.reporting.specs.Sides.{found_cell};
 ghost use Rattle.reporting.specs.Tallies.{Tallies, Bounded, lesser, added, tallied};
 
 use crate::cells::is_number;
@@ -14,17 +14,8 @@ use crate::index::{KeyIndex, bucket, first_linked};
 use crate::side::{Found, side_cell};
 use crate::test::{linked_meets, row_meets};
 use reading::kinds::Kind;
-use reading::plan::Node;
+use reading::plan::{AggregateKind, Node};
 use reading::set::number_word;
-
-// Which of the four it is.
-#[derive(Clone, Copy)]
-pub enum AggregateKind {
-    Count,
-    Sum,
-    Least,
-    Greatest,
-}
 
 // What the measured cells of the rows that passed so far come to: how many rows; of those with no blank how many, their sum, the least
 // and the greatest; and whether one is off scale. The sum of 4,096 cells can take 76 bits, so those of the cells' lower and of their upper
@@ -138,12 +129,7 @@ pub(crate) fn aggregate_kind(node: Node) -> AggregateKind
     ensures { aggregate_by result node.column ≡ aggregate_in (operator_of node) }
 {
     match node.kind {
-        Kind::Fold | Kind::Pair | Kind::Group => match node.arg {
-            0 => AggregateKind::Count,
-            1 => AggregateKind::Sum,
-            2 => AggregateKind::Least,
-            _ => AggregateKind::Greatest,
-        },
+        Kind::Fold | Kind::Pair | Kind::Group => node.aggregate_kind(),
         _ => AggregateKind::Count,
     }
 }
@@ -184,6 +170,7 @@ pub(crate) fn gather_linked(
         return tally.result(found.aggregate);
     }
     let mut h = index.heads[bucket(key)] as usize;
+    // along the chain, which no count walks
     while 0 < h {
         let i = h - 1;
         let at = right.at + i * v;

@@ -40,7 +40,8 @@ fn give_key(found: &Found, key: u64, cells: &mut [u64], dst: usize, rows: HeldRo
     cells[dst + 1] = value;
 }
 
-// Each first occurrence of a key among these rows, with its aggregate over them: rows of two cells, at the front.
+// Each first occurrence of a key among these rows, with its aggregate over them: rows of two cells, at the front. `group_linked` finds a key and
+// gathers its rows in another way; one function over both would be longer.
 fn group_all(found: &Found, cells: &mut [u64], rows: HeldRows, side: Side) -> usize
     requires inside { FoundInside found.now 1 (length rows.columns.now) × SideInside side 0 (length rows.columns.now) }
     requires room { (rows.count * 2 ≤ rows.at) × HeldWithin rows (length cells.old) }

@@ -45,14 +45,7 @@ pub(crate) fn hash_row(row: &[u64]) -> usize
     bucket(h as u64)
 }
 
-// A link as an index.
-pub(crate) fn wide(x: u16) -> usize
-    ensures { result ≡ x }
-{
-    x as usize
-}
-
-// Puts row i at the front of the chain of bucket b.
+// Puts row i at the front of the chain of bucket b. Heads and links are two arrays: each row is written into both, and there is no heap.
 pub(crate) fn link(heads: &mut [u16], next: &mut [u16], b: usize, i: usize)
     requires { (b < length heads.old) × (i < length next.old) × (i < 65535) }
     ensures heads_after { heads.new ≡ set heads.old b (i + 1) }
@@ -90,6 +83,7 @@ pub(crate) fn first_linked(cells: &[u64], rows: HeldRows, index: KeyIndex, key: 
 {
     let w = rows.columns.len();
     let mut h = index.heads[bucket(key)] as usize;
+    // along the chain, which no count walks
     while 0 < h {
         let i = h - 1;
         if cells[rows.at + i * w + index.keys.right] == key {

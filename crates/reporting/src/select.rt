@@ -1,4 +1,5 @@
 // Select and Project: row by row. What they give is written at the front, over rows that have been read already.
+// Rows are read at one place of the lent cells and written at another, so that places and widths stand beside the cells as numbers.
 ghost use Rattle.std.specs.Prelude.{◌≡◌, ◌+◌, ◌*◌, ◌-◌, ◌≤◌, length};
 ghost use Rattle.algebra.specs.Plans.{test};
 ghost use Rattle.reading.specs.Tree.{form_of};

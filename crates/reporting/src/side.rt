@@ -7,11 +7,11 @@ ghost use Rattle.reporting.specs.Rows.{env_of};
 ghost use Rattle.reporting.specs.Sides.{side_cell, SideInside, SideFor, MeasuredFor, ConditionFor, PlacesFor, FoundFor, side_places, turned_found};
 ghost use Rattle.reporting.specs.Known.{side_shared, compared_shared, SharedIf};
 
-use crate::gather::{AggregateKind, aggregate_kind};
+use crate::gather::aggregate_kind;
 use crate::places::place_of;
 use crate::test::{has_keys, key_comparison};
 use reading::comparison::Comparison;
-use reading::plan::{Node, Test};
+use reading::plan::{AggregateKind, Node, Test};
 
 // Where a value is read: at a place of the left row, at a place of the right row, or it is one word whatever the rows.
 #[derive(Clone, Copy)]

@@ -14,7 +14,7 @@ use reading::columns::columns_at;
 use reading::comparison::Comparison;
 use reading::input::check_input;
 use reading::kinds::Kind;
-use reading::plan::{Node, Test};
+use reading::plan::{IdList, Node, Test};
 use reading::refusal::Refusal;
 
 // Turns a call back: by 1 to 14, or by 16, which leaves scratch all zero. Else scratch is left as it was.
@@ -70,8 +70,7 @@ fn distinct_of(id: u8) -> Node
         right: 0,
         comparison: Comparison::Equal,
         column: 0,
-        listed: 1,
-        list: [id, 0, 0, 0, 0, 0, 0],
+        list: IdList::one(id),
         negated: false,
         test: Test::Always,
     }

@@ -111,6 +111,7 @@ pub(crate) fn any_linked(
         return false;
     }
     let mut h = index.heads[bucket(key)] as usize;
+    // along the chain, which no count walks
     while 0 < h {
         let i = h - 1;
         if linked_meets(found, cells, src, right.at + i * v, index.keys, key) {

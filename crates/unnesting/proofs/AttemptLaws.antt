@@ -22,7 +22,7 @@ use Rattle.reading.proofs.PlanBytes.{plan_passed}
 use Rattle.unnesting.specs.Shapes.{shape, ready, operator_rule}
 use Rattle.unnesting.specs.Attempts.{possible, Left, Smallest}
 use Rattle.unnesting.proofs.Demand3.{input-parts}
-use Rattle.unnesting.proofs.RuleLaws.{rule-at}
+use Rattle.unnesting.proofs.RuleLaws.{rule-at, rule-none}
 use Rattle.unnesting.proofs.CandidateLaws.{number-at, attempt-possible, possible-none, possible-shape, attempt-past}
 
 -- ---- the step at a place
@@ -54,15 +54,19 @@ module _ (set plan : List ℕ) (input : input_refusal set plan ≡ 0) (i : ℕ) 
 -- ---- the smallest place
 
 module _ (T : Tables) (p : Plan) where
-  -- where the rule that a place names does not fit, none does
-  pub still-at : (i : ℕ) → attempt T (record { number = number_at p i; place = i }) p ≡ none → Still T p i
-  still-at i e u l g = go (attempt T (record { number = u; place = i }) p) refl
+  -- where the rule that a place names does not fit, no step does, whatever its number
+  pub step-other : (i : ℕ) → attempt T (record { number = number_at p i; place = i }) p ≡ none → (u : ℕ) → attempt T (record { number = u; place = i }) p ≡ none
+  step-other i e u = go (attempt T (record { number = u; place = i }) p) refl
     where
       go : (o : Option Plan) → attempt T (record { number = u; place = i }) p ≡ o → attempt T (record { number = u; place = i }) p ≡ none
       go none f = f
       go (some q) f =
           let n : u ≡ number_at p i = one-rule T (record { number = u; place = i }) p q f in
           ap (λ (k : ℕ). attempt T (record { number = k; place = i }) p) n ∙ e
+
+  -- where it does not, none does
+  pub still-at : (i : ℕ) → attempt T (record { number = number_at p i; place = i }) p ≡ none → Still T p i
+  still-at i e u l g = step-other i e u
 
   -- a step by another rule than its place names does not fit
   pub other-rule : (s : Step) → s.number ≢ number_at p s.place → attempt T s p ≡ none
@@ -115,6 +119,12 @@ module _ (set plan : List ℕ) (input : input_refusal set plan ≡ 0) where
   -- the rule that a node tells is the one that its place names
   pub rule-named : (i rule : ℕ) → i < nodes_of plan → rule ≡ operator_rule (operator_at plan i) → rule ≡ number_at (plan_of plan) i
   rule-named i rule h e = e ∙ (sym (rule-at plan i h) ∙ sym (number-at set plan input i h))
+
+  -- where a node has no rule, no step fits
+  pub step-unruled : (i : ℕ) → i < nodes_of plan → 0 ≡ operator_rule (operator_at plan i) → (u : ℕ) → attempt (tables_of set) (record { number = u; place = i }) (plan_of plan) ≡ none
+  step-unruled i h e =
+      step-other (tables_of set) (plan_of plan) i
+      (step-none set plan input i h (possible-none set plan input i h (rule-none (tables_of set) (fresh (tables_of set) (plan_of plan)) (plan_at plan i) (e ∙ sym (rule-at plan i h)))))
 
   -- the step that was found at place i, by the number that its node tells
   pub smallest-found : (buffer : List ℕ) (i rule long cells : ℕ) → i < nodes_of plan → rule ≡ operator_rule (operator_at plan i)

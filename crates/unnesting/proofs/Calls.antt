@@ -15,9 +15,10 @@ use Rattle.reporting.specs.declared.answer.Report.{Report}
 use Rattle.reporting.specs.Report.{row_count, column_count, report_codes, report_number, count_after, output_after, scratch_after, answered_rows, answered_columns}
 use Rattle.reporting.proofs.Reports.{listed-report}
 use Rattle.unnesting.specs.Unnest.{unnest_steps, written_steps, written_plan, unnest_number, bytes_after}
-use Rattle.unnesting.specs.StayNote.{stay_answer}
+use Rattle.unnesting.specs.StayNote.{note_due, stay_number, stay_answer}
 use Rattle.unnesting.specs.CheckSteps.{check_steps_number}
 use Rattle.unnesting.specs.Calls.{Determined, ReportPromise, report_sizes, UnnestPromise, unnest_sizes, StayNotePromise, CheckStepsPromise, NothingLeft}
+use Rattle.unnesting.proofs.NoteLaws.{listed-stay, note-number}
 
 -- ---- what a determined promise means for two calls
 
@@ -92,7 +93,8 @@ stay_note_determined : Determined length StayNotePromise
 stay_note_determined = record {
   answer = λ (set, plan, place) room. stay_answer set plan place room;
   after = λ (set, plan, place) scratch. scratch_after (input_refusal set plan) scratch;
-  kept = λ given before. record { answer = refl; cleared = refl };
+  kept = λ (set, plan, place) scratch.
+      record { number = note-number (stay_number set plan (length scratch)) (note_due set plan place) (listed-stay set plan (length scratch)); answer = refl; cleared = refl };
   only = λ given before left r p. (p.cleared, p.answer);
 }
 

@@ -92,11 +92,11 @@ operator_distinct : (node : Node) (k : Kind) → k ≡ Distinct → operator_by 
 unfolding operator_by
 operator_distinct node k e = rw e
 
-node_long : (plan : List ℕ) (i : ℕ) → length (node_at plan i).list ≡ 7
+node_long : (plan : List ℕ) (i : ℕ) → length (node_at plan i).list.ids ≡ 7
 unfolding node_at node_of
 node_long plan i = by (leb (6 + node_size (plan_version plan) * i + node_size (plan_version plan)) (length plan))
   where
-    by : (b : Bool) → length (if b then node_of (plan_version plan) (node_part plan i) else node_of (plan_version plan) []).list ≡ 7
+    by : (b : Bool) → length (if b then node_of (plan_version plan) (node_part plan i) else node_of (plan_version plan) []).list.ids ≡ 7
     by true = refl
     by false = refl
 
@@ -108,17 +108,17 @@ module _ (plan : List ℕ) (e : ℕ) (h : e < nodes_of plan) (key : ℕ) (node :
   only-other d = sym (key-kind key node node.kind d) ∙ key-at
 
   module _ (k : node.kind ≡ Distinct) where
-    long : length node.list ≡ 7
+    long : length node.list.ids ≡ 7
     long = rw q (node_long plan e)
 
     listed_at : key_list key (node_list node) ≡ key_only key (only_of (plan_at plan e))
     listed_at = sym (ap (key_node key) (operator_distinct node node.kind k)) ∙ key-at
 
-    pub only-more : (node.listed ≡ 1 → ⊥) → false ≡ key_only key (only_of (plan_at plan e))
-    only-more d = sym (key-listed key node.listed node.list long d) ∙ listed_at
+    pub only-more : (node.list.count ≡ 1 → ⊥) → false ≡ key_only key (only_of (plan_at plan e))
+    only-more d = sym (key-listed key node.list.count node.list.ids long d) ∙ listed_at
 
-    pub only-first : node.listed ≡ 1 → eqb (get_or node.list 0 0) key ≡ key_only key (only_of (plan_at plan e))
-    only-first d = sym (ap (λ (n : ℕ). key_list key (take n node.list)) d ∙ key-first key node.list long) ∙ listed_at
+    pub only-first : node.list.count ≡ 1 → eqb (get_or node.list.ids 0 0) key ≡ key_only key (only_of (plan_at plan e))
+    only-first d = sym (ap (λ (n : ℕ). key_list key (take n node.list.ids)) d ∙ key-first key node.list.ids long) ∙ listed_at
 
 -- ---- a node by its kind
 

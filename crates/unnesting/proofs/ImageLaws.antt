@@ -30,14 +30,14 @@ test-long m (Columns c l r) = refl
 test-long m (Number c l w) = refl
 
 -- from its 7 list bytes and its 16 test bytes, copied over zeros behind the first 9
-pub image-made : (node : Node) (t : List ℕ) → length node.list ≡ 7 → length t ≡ 16 → t ≡ test_image node.negated node.test
+pub image-made : (node : Node) (t : List ℕ) → length node.list.ids ≡ 7 → length t ≡ 16 → t ≡ test_image node.negated node.test
     → put_mid 16 16
-    (put_mid 9 7 (kind_number node.kind ∷ node.arg ∷ node.id ∷ node.left ∷ node.right ∷ comparison_number node.comparison ∷ node.column ∷ 0 ∷ node.listed ∷ replicate 23 0) node.list) t
+    (put_mid 9 7 (kind_number node.kind ∷ node.arg ∷ node.id ∷ node.left ∷ node.right ∷ comparison_number node.comparison ∷ node.column ∷ 0 ∷ node.list.count ∷ replicate 23 0) node.list.ids) t
     ≡ image node
 unfolding image
 image-made node t h g e =
-    let front : take 7 (node.list ++ replicate 16 0) ≡ node.list = take_at node.list (replicate 16 0) 7 h in
-    let rest : drop 7 (node.list ++ replicate 16 0) ≡ replicate 16 0 = drop_at node.list (replicate 16 0) 7 h in
+    let front : take 7 (node.list.ids ++ replicate 16 0) ≡ node.list.ids = take_at node.list.ids (replicate 16 0) 7 h in
+    let rest : drop 7 (node.list.ids ++ replicate 16 0) ≡ replicate 16 0 = drop_at node.list.ids (replicate 16 0) 7 h in
     rw (front, rest, e, append-nil)
 
 -- ---- the nodes that the rules make

@@ -1,12 +1,12 @@
 -- The stay note at a place, over bytes, and the ends of its call. Assumes nothing.
 use Prim.Native.Nat.{ℕ, zero, suc, ◌≤◌, ◌<◌}
 use mathlib.Core.Bool.{Bool, true, false, cond}
-use mathlib.Core.Path.{◌≡◌, refl, sym, ap, ◌∙◌}
+use mathlib.Core.Path.{◌≡◌, refl, sym, ap, subst, ◌∙◌}
 use mathlib.Core.List.{List}
 use mathlib.Core.Option.{Option, none, some}
-use Rattle.std.specs.Prelude.{Option as Answer, None as Nothing, Some, unwrap_or}
-use Rattle.std.proofs.lemmas.Option.{none-some}
+use Rattle.std.specs.Prelude.{Option as Answer, None as Nothing, Some, Result, Ok, Err}
 use native.Mathlib.Omega.{arith}
+use lib.Dec.{ltb}
 use lib.ListN.{length, replicate}
 use borrow.Author.Tests.{lt-ltb, le-ltb}
 use Rattle.algebra.specs.Plans.{Plan}
@@ -16,14 +16,17 @@ use Rattle.algebra.specs.StayNotes.{Sequences, sequences_of, comparing, noted}
 use Rattle.reading.specs.TableSet.{tables_of}
 use Rattle.reading.specs.Plan.{nodes_of}
 use Rattle.reading.specs.Tree.{plan_at, plan_of}
+use Rattle.reading.specs.Refusals.{refusal_number, refusal_of, number_of}
 use Rattle.reading.specs.Check.{input_refusal}
+use Rattle.reading.specs.declared.refusal.Refusal.{Refusal}
+use Rattle.reading.specs.declared.refusal.Refusal.TheVariants.{ScratchShort}
+use Rattle.reading.specs.declared.version.Version.TheVariants.{Second}
+use Rattle.reading.proofs.Acceptance.{number-positive, number-back, Listed, listed_next, listed_if, listed-input}
 use Rattle.reporting.specs.Report.{scratch_after}
 use Rattle.unnesting.specs.Shapes.{ready}
 use Rattle.unnesting.specs.Sequences.{ComparedAs}
 use Rattle.unnesting.specs.Attempts.{possible, Left}
-use Rattle.unnesting.specs.StayNote.{stay_number, note_due, note_of, position_of, note_after, StayNoted}
-use Rattle.unnesting.specs.declared.stay_note.StayNote.{StayNote}
-use Rattle.unnesting.specs.declared.stay_note.StayNote.TheVariants.{Refused, None, Position}
+use Rattle.unnesting.specs.StayNote.{stay_number, note_due, position_of, note_after, StayNoted}
 use Rattle.unnesting.proofs.SequenceLaws.{ready-comparing}
 use Rattle.unnesting.proofs.CandidateLaws.{note_possible, note_past}
 use Rattle.unnesting.proofs.AttemptLaws.{nodes-size}
@@ -33,15 +36,6 @@ use Rattle.unnesting.proofs.AttemptLaws.{nodes-size}
 -- the position that is given where these are due
 given : (set plan : List ℕ) (place : ℕ) (due : Option Sequences) → note_due set plan place ≡ due → position_of due ≡ position_of (note_due set plan place)
 given set plan place due e = ap position_of (sym e)
-
--- the note by its position
-pub note_none : (due : Option Sequences) → position_of due ≡ Nothing → None ≡ note_of due
-note_none none e = refl
-note_none (some s) e = absurd (none-some _ (sym e))
-
-pub note_position : (due : Option Sequences) (position : ℕ) → position_of due ≡ Some position → Position position ≡ note_of due
-note_position none position e = absurd (none-some position e)
-note_position (some s) position e = ap (λ (o : Answer ℕ). Position (unwrap_or o 0)) (sym e)
 
 module _ (set plan : List ℕ) (input : input_refusal set plan ≡ 0) (i : ℕ) where
   -- past the last node there is none
@@ -76,16 +70,34 @@ module _ (set plan : List ℕ) (input : input_refusal set plan ≡ 0) (i : ℕ) 
 
 -- ---- the ends of the call
 
-module _ (set plan : List ℕ) (place : ℕ) (scratch scratch' : List ℕ) (r : StayNote) where
+-- its number is a refusal's
+pub listed-stay : (set plan : List ℕ) (scratch_room : ℕ) → Listed (stay_number set plan scratch_room)
+unfolding stay_number
+listed-stay set plan scratch_room = listed_next (input_refusal set plan) _ (listed-input Second set plan) (listed_if (ltb scratch_room (need (tables_of set) (plan_of plan))) ScratchShort)
+
+-- so it is the answer's
+pub note-number : (number : ℕ) (due : Option Sequences) → Listed number → number_of (note_after number due) ≡ number
+note-number zero due l = refl
+note-number (suc number) due l = l
+
+module _ (set plan : List ℕ) (place : ℕ) (scratch scratch' : List ℕ) (r : Result (Answer ℕ) Refusal) where
   -- the answer by the call's number
   answered : (number : ℕ) → stay_number set plan (length scratch) ≡ number → r ≡ note_after number (note_due set plan place) → scratch' ≡ scratch_after (input_refusal set plan) scratch
       → StayNoted set plan place scratch scratch' r
-  answered number e a c = record { answer = a ∙ ap (λ (k : ℕ). note_after k (note_due set plan place)) (sym e); cleared = c }
+  answered number e a c =
+      record {
+        number = ap number_of a ∙ (note-number number (note_due set plan place) (subst Listed e (listed-stay set plan (length scratch))) ∙ sym e);
+        answer = a ∙ ap (λ (k : ℕ). note_after k (note_due set plan place)) (sym e);
+        cleared = c;
+      }
 
-  pub note_turned-back : (number : ℕ) → input_refusal set plan ≡ number → 0 < number → r ≡ Refused number → scratch' ≡ scratch → StayNoted set plan place scratch scratch' r
+  pub note_turned-back : (refusal : Refusal) → input_refusal set plan ≡ refusal_number refusal → r ≡ Err refusal → scratch' ≡ scratch → StayNoted set plan place scratch scratch' r
   unfolding stay_number
-  note_turned-back zero f p a c = absurd (omega arith)
-  note_turned-back (suc k) f p a c = answered (suc k) (rw f) a (rw f c)
+  note_turned-back refusal f a c = go (refusal_number refusal) (number-positive refusal) f (number-back refusal)
+    where
+      go : (number : ℕ) → 0 < number → input_refusal set plan ≡ number → refusal_of number ≡ refusal → StayNoted set plan place scratch scratch' r
+      go zero h f back = absurd (omega arith)
+      go (suc k) h f back = answered (suc k) (rw f) (a ∙ ap Err (sym back)) (rw f c)
 
   module _ (passed : input_refusal set plan ≡ 0) (clean : scratch' ≡ replicate (length scratch) 0) where
     number_16 : length scratch < need (tables_of set) (plan_of plan) → stay_number set plan (length scratch) ≡ 16
@@ -96,8 +108,8 @@ module _ (set plan : List ℕ) (place : ℕ) (scratch scratch' : List ℕ) (r : 
     unfolding stay_number
     number_0 h = rw (passed, le-ltb (length scratch) (need (tables_of set) (plan_of plan)) h)
 
-    pub note_short : length scratch < need (tables_of set) (plan_of plan) → r ≡ Refused 16 → StayNoted set plan place scratch scratch' r
-    note_short h a = answered 16 (number_16 h) a (rw passed clean)
+    pub note_short : length scratch < need (tables_of set) (plan_of plan) → r ≡ Err ScratchShort → StayNoted set plan place scratch scratch' r
+    note_short h a = answered 16 (number_16 h) (a ∙ ap Err (sym (number-back ScratchShort))) (rw passed clean)
 
-    pub note_given : need (tables_of set) (plan_of plan) ≤ length scratch → r ≡ note_of (note_due set plan place) → StayNoted set plan place scratch scratch' r
+    pub note_given : need (tables_of set) (plan_of plan) ≤ length scratch → r ≡ Ok (position_of (note_due set plan place)) → StayNoted set plan place scratch scratch' r
     note_given h a = answered 0 (number_0 h) a (rw passed clean)

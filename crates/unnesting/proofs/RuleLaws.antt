@@ -53,7 +53,7 @@ quant-rule : (m : Bool) → ◌≡◌ {A = ℕ} 0 (cond m 2 1) → ⊥
 quant-rule true e = omega arith
 quant-rule false e = omega arith
 
-rule-none : (T : Tables) (c : Option ℕ) (p : Plan) → 0 ≡ rule_of p → shape T c p ≡ none
+pub rule-none : (T : Tables) (c : Option ℕ) (p : Plan) → 0 ≡ rule_of p → shape T c p ≡ none
 unfolding rule_of shape
 rule-none T c (leaf x) h = refl
 rule-none T c (one u p) h = refl

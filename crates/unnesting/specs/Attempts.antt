@@ -15,7 +15,7 @@ use Rattle.reading.specs.Check.{input_refusal}
 use Rattle.unnesting.specs.Unnest.{unnest_steps, unnest_need, written_steps, written_plan}
 use Rattle.unnesting.specs.Demand3.{bytes_left}
 use Rattle.unnesting.specs.CheckSteps.{listed, reached_need}
-use Rattle.unnesting.specs.Shapes.{shape}
+use Rattle.unnesting.specs.Shapes.{rule_number, shape}
 use Rattle.unnesting.specs.declared.step.Next.{Next}
 use Rattle.unnesting.specs.declared.step.Found.{Found}
 use Rattle.unnesting.specs.declared.run.Ran.{Ran}
@@ -54,7 +54,7 @@ pub record Smallest (set buffer : List ℕ) (p : Plan) (rule place long cells : 
 
 abbrev pub Finds : List ℕ → List ℕ → Plan → Answer Found → Type 0
 Finds set buffer p None = (i : ℕ) → Still (tables_of set) p i
-Finds set buffer p (Some found) = Smallest set buffer p found.rule found.place found.next.length found.next.need
+Finds set buffer p (Some found) = Smallest set buffer p (rule_number found.rule) found.place found.next.length found.next.need
 
 -- ---- the run
 

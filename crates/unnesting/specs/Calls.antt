@@ -1,6 +1,6 @@
 -- No result of a call is left to the program (docs/DEFINITION.md, "The calls"): its answer and what it leaves in its buffers are functions of
 -- what it is given and lent. Definitions only; the proof is `nothing_left` of proofs/Calls.antt. A set and a plan are lists of bytes.
-use Rattle.std.specs.Prelude.{ℕ, ◌≡◌, List, ℤ, length, Result}
+use Rattle.std.specs.Prelude.{ℕ, ◌≡◌, List, ℤ, length, Option, Result}
 use Rattle.std.proofs.Math.Option.{some}
 use Rattle.algebra.specs.StayNotes.{Sequences, first_difference, SmallestDifference}
 use Rattle.reading.specs.declared.refusal.Refusal.{Refusal}
@@ -9,7 +9,6 @@ use Rattle.reporting.specs.Report.{Reported}
 use Rattle.unnesting.specs.Unnest.{Unnested}
 use Rattle.unnesting.specs.StayNote.{note_due, StayNoted}
 use Rattle.unnesting.specs.CheckSteps.{StepsChecked}
-use Rattle.unnesting.specs.declared.stay_note.StayNote.{StayNote}
 
 -- A promise is a claim about what a call is given, what the buffers lent hold before and after it, and its answer. It is determined where
 -- one answer and one content of the buffers keep it. So two calls that are given the same, and are lent buffers of the same sizes, answer
@@ -41,7 +40,7 @@ abbrev pub unnest_sizes : List ℕ × List ℕ × List ℕ → ℕ × ℕ × ℕ
 unnest_sizes (plan_out, steps_out, scratch) = (length plan_out, length steps_out, length scratch)
 
 -- given a set, a plan and a place; lent scratch
-abbrev pub StayNotePromise : List ℕ × List ℕ × ℕ → List ℕ → List ℕ → StayNote → Type 0
+abbrev pub StayNotePromise : List ℕ × List ℕ × ℕ → List ℕ → List ℕ → Result (Option ℕ) Refusal → Type 0
 StayNotePromise (set, plan, place) scratch scratch' r = StayNoted set plan place scratch scratch' r
 
 -- given a set, a plan, a list of steps and the plan theirs; lent scratch; the answer is a refusal

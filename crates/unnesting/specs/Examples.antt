@@ -1,6 +1,6 @@
 -- The examples M1 to M9 and the sample club with a Project between (docs/DEFINITION.md, "The examples"), as rows of one claim. Definitions
 -- only; the proof is `examples` of proofs/Examples.antt.
-use Rattle.std.specs.Prelude.{ℕ, ◌+◌, ◌*◌, Bool, true, false, ◌≡◌, List, [], ◌∷◌, ◌++◌, map, replicate}
+use Rattle.std.specs.Prelude.{ℕ, ◌+◌, ◌*◌, Bool, true, false, ◌≡◌, List, [], ◌∷◌, ◌++◌, map, replicate, Ok, Some}
 use Rattle.std.proofs.Math.Option.{none, some}
 use Rattle.algebra.specs.Cells.{gt, sum, over, blank, off_scale, origin, aggregate}
 use Rattle.algebra.specs.Plans.{Row, Tables, always, number_of, Test, test, holds, scan, select, quant, each, Plan, leaf, one, two, eval}
@@ -13,7 +13,6 @@ use Rattle.reading.specs.declared.version.Version.TheVariants.{Second}
 use Rattle.reporting.specs.Report.{report_rows, row_count, column_count, report_number}
 use Rattle.unnesting.specs.Unnest.{unnest_plan, written_steps, written_plan, unnest_number}
 use Rattle.unnesting.specs.StayNote.{note_due, stay_answer}
-use Rattle.unnesting.specs.declared.stay_note.StayNote.TheVariants.{Position}
 use Rattle.unnesting.specs.Demand3.{bytes_left}
 
 -- the cell of a number
@@ -124,7 +123,7 @@ pub record Examples : Type 0 where
   pub m9 : (written_steps moved_set club_plan ≡ 2 ∷ 0 ∷ 7 ∷ 0 ∷ [])
       × (attempt (tables_of moved_set) (record { number = 4; place = 0 }) (unnest_plan moved_set club_plan) ≡ none)
       × (note_due moved_set (written_plan moved_set club_plan) 0 ≡ some (record { first = single (7 ∷ 9 ∷ 4 ∷ []); second = single (9 ∷ 7 ∷ 4 ∷ []) }))
-      × (stay_answer moved_set (written_plan moved_set club_plan) 0 8192 ≡ Position 0)
+      × (stay_answer moved_set (written_plan moved_set club_plan) 0 8192 ≡ Ok (Some 0))
       × (note_due moved_set (bytes_left moved_set club_plan (record { number = 2; place = 0 } ∷ [])) 0 ≡ none)
   -- The sample club with a Project between is accepted, and its steps and the plan left are those without it.
   pub projected : (input_refusal club_set projected_plan ≡ 0)

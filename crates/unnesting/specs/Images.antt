@@ -21,8 +21,8 @@ test_image m (Number c l w) = 2 ∷ comparison_number c ∷ mark_byte m ∷ l �
 -- every field in its place
 unfoldable pub image : Node → List ℕ
 image node =
-    kind_number node.kind ∷ node.arg ∷ node.id ∷ node.left ∷ node.right ∷ comparison_number node.comparison ∷ node.column ∷ 0 ∷ node.listed
-    ∷ (node.list ++ test_image node.negated node.test)
+    kind_number node.kind ∷ node.arg ∷ node.id ∷ node.left ∷ node.right ∷ comparison_number node.comparison ∷ node.column ∷ 0 ∷ node.list.count
+    ∷ (node.list.ids ++ test_image node.negated node.test)
 
 -- a node with no list
 abbrev pub plain_node : Kind → ℕ → ℕ → ℕ → ℕ → Comparison → ℕ → Bool → Test → Node
@@ -35,8 +35,7 @@ plain_node kind arg id left right comparison column negated test =
       right = right;
       comparison = comparison;
       column = column;
-      listed = 0;
-      list = replicate 7 0;
+      list = record { ids = replicate 7 0; count = 0 };
       negated = negated;
       test = test;
     }
@@ -52,8 +51,7 @@ project_node id =
       right = 0;
       comparison = Equal;
       column = 0;
-      listed = 1;
-      list = id ∷ replicate 6 0;
+      list = record { ids = id ∷ replicate 6 0; count = 1 };
       negated = false;
       test = Always;
     }

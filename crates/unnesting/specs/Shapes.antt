@@ -1,6 +1,6 @@
 -- What a rule makes of a node's tree, told apart into what the plan alone decides and what rows decide, and the bytes of the plan after it. The
 -- contracts of helpers speak of these; the rules are the algebra's `unnest`. Definitions only.
-use Rattle.std.specs.Prelude.{ℕ, ◌+◌, ◌*◌, ◌-◌, ◌≤◌, ◌<◌, Bool, true, not, cond, ◌≡◌, List, [], ◌++◌, Option as Answer, MatchOption, take, drop}
+use Rattle.std.specs.Prelude.{ℕ, ◌+◌, ◌*◌, ◌-◌, ◌≤◌, ◌<◌, Bool, true, not, cond, ◌≡◌, List, [], ◌++◌, Option as Answer, None, Some, MatchOption, take, drop}
 use Rattle.std.proofs.Math.Option.{Option, none, some}
 use Rattle.algebra.specs.Lists.{is_empty, flat_map}
 use Rattle.algebra.specs.Plans.{Tables, is_plain, cross, semi, quant, fold, each, pair, Plan, leaf, one, two, eval}
@@ -15,6 +15,8 @@ use Rattle.unnesting.specs.Images.{image}
 use Rattle.unnesting.specs.declared.change.Change.{Change}
 use Rattle.unnesting.specs.declared.change.More.{More}
 use Rattle.unnesting.specs.declared.change.More.TheVariants.{Nothing, One, Two}
+use Rattle.unnesting.specs.declared.rule.Rule.{Rule}
+use Rattle.unnesting.specs.declared.rule.Rule.TheVariants.{U1, U2, U3, U4, U5, U6, U7, U8}
 
 -- ---- a rule without what rows decide
 
@@ -43,6 +45,22 @@ ready T (two (quant m t) e f) = true
 ready T (two (fold a n t) e f) = true
 ready T (two each e f) = not (is_empty (eval T f outside))
 ready T (two (pair a n l r k t) e f) = sequenced T e r f
+
+-- the number of a rule
+abbrev pub rule_number : Rule → ℕ
+rule_number U1 = 1
+rule_number U2 = 2
+rule_number U3 = 3
+rule_number U4 = 4
+rule_number U5 = 5
+rule_number U6 = 6
+rule_number U7 = 7
+rule_number U8 = 8
+
+-- of the rule that can fit, 0 where none can
+abbrev pub number_of_rule : Answer Rule → ℕ
+number_of_rule None = 0
+number_of_rule (Some rule) = rule_number rule
 
 -- the number of the rule that can fit at a node, as the algebra's `rule_of`
 abbrev pub operator_rule : Operator → ℕ

@@ -1,6 +1,6 @@
 -- The answer of the unnesting call (docs/DEFINITION.md, "Steps" and "The calls"). A set and a plan are lists of bytes.
 -- Definitions only.
-use Rattle.std.specs.Prelude.{ℕ, zero, suc, max, ◌||◌, ◌≡◌, ltb, length, drop, if◌then◌else◌}
+use Rattle.std.specs.Prelude.{ℕ, zero, suc, max, ◌||◌, ◌≡◌, ltb, length, drop, if◌then◌else◌, Result, Ok, Err}
 use mathlib.Core.List.{List, [], ◌∷◌, ◌++◌, map, foldr}
 use Rattle.algebra.specs.Lists.{flat_map}
 use Rattle.algebra.specs.Plans.{Tables, Plan}
@@ -10,7 +10,9 @@ use Rattle.reading.specs.TableSet.{tables_of}
 use Rattle.reading.specs.Tree.{plan_of}
 use Rattle.reading.specs.Encoding.{plan_bytes}
 use Rattle.reading.specs.Check.{or_next, input_refusal}
+use Rattle.reading.specs.declared.refusal.Refusal.{Refusal}
 use Rattle.reporting.specs.Report.{count_after, scratch_after}
+use Rattle.unnesting.specs.declared.unnest.Unnested.{Unnested as Counts}
 
 -- ---- the run
 
@@ -67,6 +69,16 @@ unnest_output set plan plan_room step_room =
 unfoldable pub unnest_number : List ℕ → List ℕ → ℕ → ℕ → ℕ → ℕ
 unnest_number set plan plan_room step_room scratch_room =
     or_next (input_refusal set plan) (or_next (unnest_scratch set plan scratch_room) (unnest_output set plan plan_room step_room))
+
+-- ---- what is returned: how many steps there are and how many bytes the last plan takes, or a refusal, which has zero for both
+
+abbrev pub answered_steps : Result Counts Refusal → ℕ
+answered_steps (Ok counts) = counts.steps
+answered_steps (Err refusal) = 0
+
+abbrev pub answered_bytes : Result Counts Refusal → ℕ
+answered_bytes (Ok counts) = counts.bytes
+answered_bytes (Err refusal) = 0
 
 -- ---- the whole answer
 

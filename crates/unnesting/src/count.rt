@@ -21,7 +21,7 @@ use crate::place::Place;
 use reading::comparison::Comparison;
 use reading::free::{is_closed, local_at};
 use reading::kinds::Kind;
-use reading::plan::{Node, Test, node_at};
+use reading::plan::{IdList, Node, Test, node_at};
 
 // Whether the tree at place e is a Distinct of that column alone.
 fn only_key(plan: &[u8], e: usize, key: u8) -> bool
@@ -30,7 +30,7 @@ fn only_key(plan: &[u8], e: usize, key: u8) -> bool
 {
     let node = node_at(plan, e);
     match node.kind {
-        Kind::Distinct => node.listed == 1 && node.list[0] == key,
+        Kind::Distinct => node.list.count == 1 && node.list.ids[0] == key,
         _ => false,
     }
 }
@@ -48,8 +48,7 @@ fn project_node(id: u8) -> Node
     ensures { result ≡ project_node id }
 {
     Node {
-        listed: 1,
-        list: [id, 0, 0, 0, 0, 0, 0],
+        list: IdList::one(id),
         ..plain_node(Kind::Project)
     }
 }
@@ -135,8 +134,7 @@ fn pair_group(node: Node) -> Node
 {
     Node {
         kind: Kind::Group,
-        listed: 0,
-        list: [0; 7],
+        list: IdList::NONE,
         ..node
     }
 }

@@ -1,10 +1,12 @@
 // Following a list of steps that is given: each is tried at its own place, in its turn.
 ghost use Rattle.std.specs.Prelude.{◌≡◌, length};
+ghost use Rattle.reading.specs.Refusals.{refusal_number};
 ghost use Rattle.unnesting.specs.Attempts.{Follows, stopped_number};
 
 use crate::image::write_bytes;
 use crate::input::Input;
 use crate::step::try_step;
+use reading::refusal::Refusal;
 
 // Why a list of steps is not followed to its end: scratch is short of a plan reached, or a step does not fit.
 #[derive(Clone, Copy)]
@@ -13,14 +15,14 @@ pub enum Stopped {
     Unfit,
 }
 
-// The number that refuses such a list.
-impl From<Stopped> for u8 {
-    ghost from_gives = { λ stopped number. number ≡ stopped_number stopped };
+// The refusal of such a list.
+impl From<Stopped> for Refusal {
+    ghost from_gives = { λ stopped refusal. refusal_number refusal ≡ stopped_number stopped };
 
-    fn from(stopped: Stopped) -> u8 {
+    fn from(stopped: Stopped) -> Refusal {
         match stopped {
-            Stopped::Short => 16,
-            Stopped::Unfit => 21,
+            Stopped::Short => Refusal::ScratchShort,
+            Stopped::Unfit => Refusal::StepUnfit,
         }
     }
 }

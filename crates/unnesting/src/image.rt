@@ -8,7 +8,7 @@ ghost use Rattle.unnesting.specs.Images.{bytes_written, image, plain_node, test_
 
 use reading::comparison::Comparison;
 use reading::kinds::Kind;
-use reading::plan::{Node, Test};
+use reading::plan::{IdList, Node, Test};
 
 // The eight bytes of a number that is held as a cell's word: half the range is added, as a sum that wraps.
 fn number_bytes(number: u64) -> [u8; 8]
@@ -63,9 +63,9 @@ fn node_image(node: Node) -> [u8; 32]
         comparison,
         node.column,
         0,
-        node.listed,
+        node.list.count,
     ]);
-    bytes[9..16].copy_from_slice(&node.list);
+    bytes[9..16].copy_from_slice(&node.list.ids);
     bytes[16..32].copy_from_slice(&test_image(node.negated, node.test));
     bytes
 }
@@ -82,14 +82,13 @@ pub(crate) fn plain_node(kind: Kind) -> Node
         right: 0,
         comparison: Comparison::Equal,
         column: 0,
-        listed: 0,
-        list: [0; 7],
+        list: IdList::NONE,
         negated: false,
         test: Test::Always,
     }
 }
 
-// Writes bytes from a place on.
+// Writes bytes from a place on: a name for the library's copy, since the proofs of runs speak of `bytes_written`.
 pub(crate) fn write_bytes(out: &mut [u8], at: usize, bytes: &[u8])
     requires { at + length bytes.now ≤ length out.old }
     ensures { out.new ≡ bytes_written out.old at bytes.now }

@@ -21,7 +21,7 @@ use crate::place::Place;
 use reading::comparison::Comparison;
 use reading::free::avoids_at;
 use reading::kinds::Kind;
-use reading::plan::{Node, Test, node_at};
+use reading::plan::{IdList, Node, Test, node_at};
 use reading::view::add_columns;
 
 // How a comparison links a left and a right row: a left key, a right key and the comparison of the two.
@@ -152,8 +152,7 @@ fn pair_node(node: Node, link: Link) -> Node
         left: link.left,
         right: link.right,
         comparison: link.comparison,
-        listed: 0,
-        list: [0; 7],
+        list: IdList::NONE,
         ..node
     }
 }

@@ -1,6 +1,6 @@
-// Unnesting: the eight rules at the places of a plan's bytes, and the three calls. `shape` says what the rule at a `place` makes of the plan, so far
-// as the plan alone decides (`join`, `count`, by `ids` and by reading's `free`), `sequence` what rows decide, `change` writes the plan after it
-// (`image`), `step` tries a place and finds the smallest that fits, `run` goes on until none does, `follow` takes the steps of a
+// Unnesting: the eight rules (`rule`) at the places of a plan's bytes, and the three calls. `shape` says what the rule at a `place` makes of the
+// plan, so far as the plan alone decides (`join`, `count`, by `ids` and by reading's `free`), `sequence` what rows decide, `change` writes the
+// plan after it (`image`), `step` tries a place and finds the smallest that fits, `run` goes on until none does, `follow` takes the steps of a
 // list that is given. `input` holds what the calls' check has told of a set and a plan.
 #![tactic(auto)]
 
@@ -13,6 +13,7 @@ mod image;
 mod input;
 mod join;
 mod place;
+mod rule;
 mod run;
 mod sequence;
 mod shape;

@@ -1,9 +1,11 @@
 // The run: at the smallest place where a rule fits, again and again.
 ghost use Rattle.std.specs.Prelude.{◌≡◌, [], ◌∷◌, ◌++◌, ◌+◌, ◌*◌, ◌≤◌, length, take};
 ghost use Rattle.unnesting.specs.Attempts.{Runs};
+ghost use Rattle.unnesting.specs.Shapes.{rule_number};
 
 use crate::image::write_bytes;
 use crate::input::Input;
+use crate::rule::Rule;
 use crate::step::smallest_step;
 
 // How a run ended for whose plans scratch was enough: how many steps there are and how long the last plan is.
@@ -14,11 +16,11 @@ pub struct Ran {
 }
 
 // Writes a step's two bytes behind the `count` steps that stand at the front: its rule, and the place before it.
-fn write_step(steps: &mut [u8], count: usize, rule: u8, place: u8)
+fn write_step(steps: &mut [u8], count: usize, rule: Rule, place: u8)
     requires { 2 * (count + 1) ≤ length steps.old }
-    ensures { take (2 * (count + 1)) steps.new ≡ take (2 * count) steps.old ++ (rule ∷ place ∷ []) }
+    ensures { take (2 * (count + 1)) steps.new ≡ take (2 * count) steps.old ++ (rule_number rule ∷ place ∷ []) }
 {
-    let bytes = [rule, place];
+    let bytes = [u8::from(rule), place];
     write_bytes(steps, 2 * count, &bytes);
 }
 

@@ -9,21 +9,22 @@ ghost use Rattle.algebra.specs.StayNotes.{comparing, first_difference, sequences
 ghost use Rattle.reading.specs.TableSet.{tables_of};
 ghost use Rattle.reading.specs.Plan.{node_at, nodes_of};
 ghost use Rattle.reading.specs.Tree.{plan_of, plan_at, whole_tree};
-ghost use Rattle.unnesting.specs.Shapes.{shape, ready};
+ghost use Rattle.unnesting.specs.Shapes.{number_of_rule, shape, ready};
 ghost use Rattle.unnesting.specs.Sequences.{ComparedAs, rows_of_one};
 
 use crate::input::Input;
+use crate::rule::Rule;
 use crate::shape::rule_of;
 use reading::kinds::Kind;
 use reading::plan::{Node, node_at};
 use reading::tree::tree_end;
 use reporting::subplan::{keys_at, rows_at};
 
-// Whether a rule compares sequences: U3, U4, U6.
-pub(crate) fn compares(rule: u8) -> bool
-    ensures { result ≡ comparing rule }
+// Whether the rule that can fit at a node compares sequences: U3, U4, U6.
+pub(crate) fn compares(rule: Option<Rule>) -> bool
+    ensures { result ≡ comparing (number_of_rule rule) }
 {
-    matches!(rule, 3 | 4 | 6)
+    matches!(rule, Some(Rule::U3 | Rule::U4 | Rule::U6))
 }
 
 // ---- two sequences
@@ -141,7 +142,7 @@ pub(crate) fn ready_at(input: Input<'_>, i: usize, node: Node, scratch: &mut [u6
     ensures { result ≡ ready (tables_of input.entry.set.now) (plan_at input.entry.plan.now i) }
 {
     let rule = rule_of(node);
-    if rule == 8 {
+    if rule == Some(Rule::U8) {
         let f = tree_end(input.plan, i + 1);
         return gives_row(input, f, scratch);
     }

@@ -4,13 +4,14 @@ ghost use Rattle.std.specs.Prelude.{◌≡◌, ◌⊎◌, false};
 ghost use Rattle.algebra.specs.Plans.{is_plain};
 ghost use Rattle.reading.specs.Tree.{node_test, operator_of};
 ghost use Rattle.reading.specs.declared.kinds.Kind.TheVariants.{Semi, Anti, Each};
-ghost use Rattle.unnesting.specs.Shapes.{ShapedAt, operator_rule};
+ghost use Rattle.unnesting.specs.Shapes.{ShapedAt, number_of_rule, operator_rule};
 
 use crate::change::{Change, More};
 use crate::count::{count_shape, group_shape};
 use crate::image::plain_node;
 use crate::join::join_shape;
 use crate::place::Place;
+use crate::rule::Rule;
 use reading::free::{is_closed, local_at};
 use reading::kinds::Kind;
 use reading::plan::{Node, Test};
@@ -22,20 +23,20 @@ fn is_plain(node: Node) -> bool
     matches!(node.test, Test::Always) && !node.negated
 }
 
-// The number of the rule that can fit at a node; 0 where none can.
-pub(crate) fn rule_of(node: Node) -> u8
-    ensures { result ≡ operator_rule (operator_of node) }
+// The rule that can fit at a node; None where none can.
+pub(crate) fn rule_of(node: Node) -> Option<Rule>
+    ensures { number_of_rule result ≡ operator_rule (operator_of node) }
 {
     match node.kind {
-        Kind::Semi if is_plain(node) => 3,
-        Kind::Anti if is_plain(node) => 4,
-        Kind::Semi | Kind::Anti => 7,
-        Kind::Some => 1,
-        Kind::Every => 2,
-        Kind::Fold => 5,
-        Kind::Each => 8,
-        Kind::Pair => 6,
-        _ => 0,
+        Kind::Semi if is_plain(node) => Some(Rule::U3),
+        Kind::Anti if is_plain(node) => Some(Rule::U4),
+        Kind::Semi | Kind::Anti => Some(Rule::U7),
+        Kind::Some => Some(Rule::U1),
+        Kind::Every => Some(Rule::U2),
+        Kind::Fold => Some(Rule::U5),
+        Kind::Each => Some(Rule::U8),
+        Kind::Pair => Some(Rule::U6),
+        _ => None,
     }
 }
 

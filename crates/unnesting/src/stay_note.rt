@@ -7,16 +7,9 @@ use crate::sequence::{compares, sequences_at};
 use crate::shape::rule_of;
 use crate::step::possible_at;
 use reading::plan::node_at;
+use reading::refusal::Refusal;
 use reading::tree::nodes_of;
 use reporting::output::clear;
-
-// What the stay note call gives: a refusal's number, no note, or the first position at which the sequences differ or just one has ended.
-#[derive(Clone, Copy)]
-pub enum StayNote {
-    Refused(u8),
-    None,
-    Position(usize),
-}
 
 // The position of the note at a place of an input that 1 to 14 do not turn back, with scratch enough.
 fn note_at(input: Input<'_>, place: usize, scratch: &mut [u64]) -> Option<usize>
@@ -31,6 +24,7 @@ fn note_at(input: Input<'_>, place: usize, scratch: &mut [u64]) -> Option<usize>
         return None;
     }
     let mut after = [0u8; 2086];
+    // a match in place of `?`, so that an edit of the second arm alone is refused (must-fail, note_unfit)
     match possible_at(input, place, node, &mut after) {
         Some(_) => sequences_at(input, place, node, scratch),
         None => None,
@@ -38,27 +32,32 @@ fn note_at(input: Input<'_>, place: usize, scratch: &mut [u64]) -> Option<usize>
 }
 
 // The note at a place of an input that 1 to 14 do not turn back; 16 where scratch is short of its need.
-fn note_accepted(input: Input<'_>, place: usize, scratch: &mut [u64]) -> StayNote
+fn note_accepted(
+    input: Input<'_>,
+    place: usize,
+    scratch: &mut [u64],
+) -> Result<Option<usize>, Refusal>
     ensures { StayNoted input.entry.set.now input.entry.plan.now place scratch.old scratch.new result }
 {
     if scratch.len() < input.need {
         clear(scratch);
-        return StayNote::Refused(16);
+        return Err(Refusal::ScratchShort);
     }
     let note = note_at(input, place, scratch);
     clear(scratch);
-    match note {
-        None => StayNote::None,
-        Some(position) => StayNote::Position(position),
-    }
+    Ok(note)
 }
 
-// The note at a place of a plan: the first difference exactly where U3, U4 or U6 fails there only because the sequences differ.
-pub fn stay_note(set: &[u8], plan: &[u8], place: usize, scratch: &mut [u64]) -> StayNote
+// The note at a place of a plan: exactly where U3, U4 or U6 fails there only because the sequences differ, the first position at which they differ
+// or just one has ended; or a refusal.
+pub fn stay_note(
+    set: &[u8],
+    plan: &[u8],
+    place: usize,
+    scratch: &mut [u64],
+) -> Result<Option<usize>, Refusal>
     ensures { StayNoted set.now plan.now place scratch.old scratch.new result }
 {
-    match Input::check(set, plan) {
-        Err(refusal) => StayNote::Refused(u8::from(refusal)),
-        Ok(input) => note_accepted(input, place, scratch),
-    }
+    let input = Input::check(set, plan)?;
+    note_accepted(input, place, scratch)
 }

@@ -10,6 +10,7 @@ ghost use Rattle.unnesting.specs.Attempts.{Finds, Tells, possible};
 use crate::change::write_change;
 use crate::input::Input;
 use crate::place::Place;
+use crate::rule::Rule;
 use crate::sequence::ready_at;
 use crate::shape::{rule_of, shape_at};
 use reading::input::check_plan;
@@ -26,7 +27,7 @@ pub struct Next {
 // The step at the smallest place where a rule fits, and what is known of the plan after it.
 #[derive(Clone, Copy)]
 pub struct Found {
-    pub rule: u8,
+    pub rule: Rule,
     pub place: u8,
     pub next: Next,
 }
@@ -74,7 +75,8 @@ fn step_at(
     }
 }
 
-// The plan after a step that is given, where its rule fits at its place. At a place only the rule that its node names can fit.
+// The plan after a step that is given, where its rule fits at its place. At a place only the rule that its node names can fit. The
+// rule is a number here, since a list made elsewhere holds bytes.
 pub(crate) fn try_step(
     input: Input<'_>,
     rule: u8,
@@ -89,10 +91,10 @@ pub(crate) fn try_step(
         return None;
     }
     let node = node_at(input.plan, place);
-    if rule_of(node) != rule {
-        return None;
+    match rule_of(node) {
+        Some(named) if u8::from(named) == rule => step_at(input, place, node, out, scratch),
+        _ => None,
     }
-    step_at(input, place, node, out, scratch)
 }
 
 // The step at the smallest place where a rule fits. At a place only the rule that its node names can fit.
@@ -102,12 +104,14 @@ pub(crate) fn smallest_step(input: Input<'_>, out: &mut [u8], scratch: &mut [u64
 {
     for i in 0..nodes_of(input.plan) {
         let node = node_at(input.plan, i);
-        if let Some(next) = step_at(input, i, node, out, scratch) {
-            return Some(Found {
-                rule: rule_of(node),
-                place: i as u8,
-                next,
-            });
+        if let Some(rule) = rule_of(node) {
+            if let Some(next) = step_at(input, i, node, out, scratch) {
+                return Some(Found {
+                    rule,
+                    place: i as u8,
+                    next,
+                });
+            }
         }
     }
     None

@@ -4,7 +4,7 @@ use Rattle.listing.proofs.RoomLaws.{report-room, steps-room}
 use Rattle.listing.proofs.list.Goals as goal
 
 pub show_steps-requires : goal.show_steps-requires
-show_steps-requires g c = omega (arith, steps-room c.unnest-unnested.ensures c.if-turned_back-ne0.false, c.unnest-unnested.auto.out_steps)
+show_steps-requires g c = omega (arith, steps-room c.unnest.ensures c.in-Ok.is, c.unnest.auto.out_steps)
 
 pub show_report-requires : goal.show_report-requires
-show_report-requires g c = omega (arith, report-room c.report.ensures c.in-Ok.is, c.report.auto.out)
+show_report-requires g c = omega (arith, report-room c.report.ensures c.in-Ok-report.is, c.report.auto.out)

@@ -19,8 +19,8 @@ unfolding operator_by
 returns-in-Project c =
     let a = c.args in
     let P : Kind → Type 0 = λ k. width_by a.set.now a.node a.first a.second k ≡ length (node_list a.node) in
-    let e = c.list_length.ensures in
-    rw (one_of P refl (just P refl) c.in-Project.is, ← e.1) (within_cap c.list_length.result 33 (omega arith))
+    let e = c.len.ensures in
+    rw (one_of P refl (just P refl) c.in-Project.is, ← e.1) (within_cap c.len.result 33 (omega arith))
 
 pub returns-in-Cross : goal.returns-in-Cross
 unfolding operator_by

@@ -4,4 +4,4 @@ use Rattle.reading.specs.Flags.{Adds}
 use Rattle.reading.proofs.view.add_list.Given as goal
 
 abbrev pub invariant-loop-id : goal.invariant-loop-id
-invariant-loop-id l = (length l.marks ≡ 256) × Adds l.initial.marks (take l.id-index (take l.count l.fn.list)) l.marks
+invariant-loop-id l = (length l.marks ≡ 256) × Adds l.initial.marks (take l.id-index (take l.fn.list.count l.fn.list.ids)) l.marks

@@ -1,11 +1,11 @@
 use mathlib.Core.Path.{◌≡◌, sym, ap, ◌∙◌, subst}
 use mathlib.Core.List.{List, map}
 use mathlib.Core.Logic.{inl, inr}
-use Prim.Native.Nat.{ℕ, ◌*◌, ◌-◌}
+use Prim.Native.Nat.{ℕ, ◌*◌, ◌≤◌}
 use native.Mathlib.Omega.{arith}
 use native.Mathlib.Nat.{mul-le-mul_right}
 use lib.Dec.{eqb}
-use lib.ListN.{length, take, drop}
+use lib.ListN.{length, drop, length-take}
 use Rattle.algebra.specs.Plans.{Row, cut}
 use Rattle.reading.specs.declared.kinds.Kind.TheVariants.{Distinct}
 use Rattle.reading.specs.Tree.{operator_of, node_list}
@@ -16,12 +16,7 @@ use Rattle.reporting.proofs.Building.{cuts-inside}
 use Rattle.reporting.proofs.ListActs.{distinct-kind, group-columns, sort-columns, group_region, sort_region, list-columns, group_acts, sort_acts, distinct_acts}
 use borrow.Author.Rules.{rules}
 use Rattle.reporting.proofs.act.act.Goals as goal
-use Rattle.reporting.proofs.act.act.Goals.{After-list_length-n, In-Project, In_default}
-
-part : (c : After-list_length-n) → take (c.list_length-n.result - 0) c.args.node.list ≡ node_list c.args.node
-part c =
-    let z : c.list_length-n.result - 0 ≡ c.list_length-n.result = omega arith in
-    ap (λ (k : ℕ). take k c.args.node.list) z ∙ c.list_length-n.ensures.2
+use Rattle.reporting.proofs.act.act.Goals.{In-Project, In_default}
 
 columns-in-Project : (c : In-Project) → acted_columns (operator_of c.args.node) c.args.ids.now ≡ node_list c.args.node
 columns-in-Project c = list-columns c.args.node c.args.ids.now (inl c.in-Project.is)
@@ -55,17 +50,14 @@ returns-in-Group c =
     let a = c.args in
     group_acts a.node a.ids.now (env_of a.env.now) (chunk a.m (length a.ids.now) (drop a.own a.cells.now)) a.m _ _ c.in-Group.is c.group.ensures
 
-pub slice_bounds-sort_by-end : goal.slice_bounds-sort_by-end
-slice_bounds-sort_by-end c =
-    let g : length c.args.node.list ≡ 7 = search rules in
-    omega (arith, c.list_length-n.ensures.0)
-
 pub sort_by-requires : goal.sort_by-requires
 sort_by-requires c =
     let a = c.args in
     let p = c.requires in
-    let l = c.list_length-n in
-    let e = ap (λ (x : List ℕ). a.m * length x) (sort-columns a.node a.ids.now c.in-Sort.is) in record { ids_len_bound = (p.node_value.3, omega (arith, ap length (part (goal.at.sort_by-requires c).After-list_length-n), l.ensures.0, l.ensures.1)); ids_bound = (omega (arith, rw (sort_region a.node a.ids.now c.in-Sort.is) at p.unary_room.share), p.unary_room.cuts.inside) }
+    let ids = a.node.list in
+    let long : length ids.ids ≡ 7 = search rules in
+    let few : length c.as_slice-list.result.now ≤ 7 = omega (arith, ap length c.as_slice-list.ensures, length-take ids.count ids.ids) in
+    let e = ap (λ (x : List ℕ). a.m * length x) (sort-columns a.node a.ids.now c.in-Sort.is) in record { ids_len_bound = (p.node_value.3, few); ids_bound = (omega (arith, rw (sort_region a.node a.ids.now c.in-Sort.is) at p.unary_room.share), p.unary_room.cuts.inside) }
 
 pub returns-in-Sort : goal.returns-in-Sort
 returns-in-Sort c =
@@ -73,12 +65,7 @@ returns-in-Sort c =
     let s = c.sort_by in
     let rows : List Row = chunk a.m (length a.ids.now) (drop a.own a.cells.now) in
     sort_acts a.node a.ids.now (env_of a.env.now) rows a.m s.result s.new.cells c.in-Sort.is
-    (subst (λ (x : List ℕ). SortedBy (eqb a.node.arg 1) x a.ids.now rows (length a.ids.now) a.m s.result s.new.cells) (part (goal.at.returns-in-Sort c).After-list_length-n) s.ensures)
-
-pub slice_bounds-project-end : goal.slice_bounds-project-end
-slice_bounds-project-end c =
-    let g : length c.args.node.list ≡ 7 = search rules in
-    omega (arith, c.list_length-n.ensures.0)
+    (subst (λ (x : List ℕ). SortedBy (eqb a.node.arg 1) x a.ids.now rows (length a.ids.now) a.m s.result s.new.cells) c.as_slice-list.ensures s.ensures)
 
 -- the cells that the call asks for, where the columns are the list's
 cuts : (w own m n : ℕ) {columns list given : List ℕ} → columns ≡ list → given ≡ list → CutsRoom w (length columns) own m n → CutsRoom w (length given) own m n
@@ -88,7 +75,7 @@ pub project-requires : goal.project-requires
 project-requires c =
     let a = c.args in
     let p = c.requires in
-    (p.node_value.1, cuts (length a.ids.now) a.own a.m (length a.cells.now) (columns-in-Project (goal.at.project-requires c).In-Project) (part (goal.at.project-requires c).After-list_length-n) p.unary_room.cuts)
+    (p.node_value.1, cuts (length a.ids.now) a.own a.m (length a.cells.now) (columns-in-Project (goal.at.project-requires c).In-Project) c.as_slice-list.ensures p.unary_room.cuts)
 
 pub returns-in-Project : goal.returns-in-Project
 returns-in-Project c =
@@ -96,34 +83,29 @@ returns-in-Project c =
     let p = c.project in
     let rows : List Row = chunk a.m (length a.ids.now) (drop a.own a.cells.now) in
     project_acts a.node a.ids.now (env_of a.env.now) rows a.m p.result p.new.cells c.in-Project.is
-    (subst (λ (x : List ℕ). Gives (map (cut x a.ids.now (env_of a.env.now)) rows) (length x) a.m p.result p.new.cells) (part (goal.at.returns-in-Project c).After-list_length-n) p.ensures)
-
-pub slice_bounds-project-end-in_default : goal.slice_bounds-project-end-in_default
-slice_bounds-project-end-in_default c =
-    let g : length c.args.node.list ≡ 7 = search rules in
-    omega (arith, c.list_length-n.ensures.0)
+    (subst (λ (x : List ℕ). Gives (map (cut x a.ids.now (env_of a.env.now)) rows) (length x) a.m p.result p.new.cells) c.as_slice-list.ensures p.ensures)
 
 pub project-given-requires : goal.project-given-requires
 project-given-requires c =
     let a = c.args in
     let p = c.requires in
-    (p.node_value.1, cuts (length a.ids.now) a.own a.m (length a.cells.now) (columns-in_default (goal.at.project-given-requires c).In_default) (part (goal.at.project-given-requires c).After-list_length-n) p.unary_room.cuts)
+    (p.node_value.1, cuts (length a.ids.now) a.own a.m (length a.cells.now) (columns-in_default (goal.at.project-given-requires c).In_default) c.as_slice-list.ensures p.unary_room.cuts)
 
 pub distinct_front-requires : goal.distinct_front-requires
 distinct_front-requires c =
     let a = c.args in
     let q = c.requires.unary_room in
-    let l = c.list_length-n in
+    let l = c.as_slice-list in
     let p = c.project-given in
-    let n : a.m * l.result ≡ a.m * length (acted_columns (operator_of a.node) a.ids.now) = ap (λ (x : ℕ). a.m * x) (l.ensures.1 ∙ ap length (sym (columns-in_default (goal.at.distinct_front-requires c).In_default))) in
-    omega (arith, mul-le-mul_right l.result p.ensures.few, cuts-inside a.m q.cuts, p.auto.cells)
+    let n : a.m * length l.result.now ≡ a.m * length (acted_columns (operator_of a.node) a.ids.now) = ap (λ (x : ℕ). a.m * x) (ap length (l.ensures ∙ sym (columns-in_default (goal.at.distinct_front-requires c).In_default))) in
+    omega (arith, mul-le-mul_right (length l.result.now) p.ensures.few, cuts-inside a.m q.cuts, p.auto.cells)
 
 pub returns-in_default : goal.returns-in_default
 returns-in_default c =
     let a = c.args in
-    let l = c.list_length-n in
+    let l = c.as_slice-list in
     let p = c.project-given in
     let d = c.distinct_front in
     let rows : List Row = chunk a.m (length a.ids.now) (drop a.own a.cells.now) in
-    let cut-rows = subst (λ (x : List ℕ). Gives (map (cut x a.ids.now (env_of a.env.now)) rows) (length x) a.m p.result p.new.cells) (part (goal.at.returns-in_default c).After-list_length-n) p.ensures in
-    distinct_acts a.node a.ids.now (env_of a.env.now) rows a.m d.result d.new.cells (is-distinct (goal.at.returns-in_default c).In_default) p.result l.result p.new.cells l.ensures.1 cut-rows d.ensures.gives
+    let cut-rows = subst (λ (x : List ℕ). Gives (map (cut x a.ids.now (env_of a.env.now)) rows) (length x) a.m p.result p.new.cells) l.ensures p.ensures in
+    distinct_acts a.node a.ids.now (env_of a.env.now) rows a.m d.result d.new.cells (is-distinct (goal.at.returns-in_default c).In_default) p.result (length l.result.now) p.new.cells (ap length l.ensures) cut-rows d.ensures.gives

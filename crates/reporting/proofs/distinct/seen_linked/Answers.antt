@@ -47,11 +47,11 @@ pub loop-h-init : goal.loop-h-init
 loop-h-init c =
     let a = c.args in
     let rs : List Row = chunk a.k a.w a.cells.now in
-    let h = c.wide-h.result in
+    let h : ℕ = get_or a.heads.now a.b 0 in
     let x = c.requires.index in
     let row : Row = take a.w (drop a.src a.cells.now) in (
-      kept_walk row_slot rs a.k (length-chunk a.k a.w a.cells.now) a.heads.now a.next.now x a.b c.requires.b_bound.0 h c.wide-h.ensures,
-      kept_any row_slot rs a.k (length-chunk a.k a.w a.cells.now) a.heads.now a.next.now x a.b c.requires.b_bound.0 h c.wide-h.ensures (λ q. same q row) (same-only row_slot a.b row c.requires.b_bound.1),
+      kept_walk row_slot rs a.k (length-chunk a.k a.w a.cells.now) a.heads.now a.next.now x a.b c.requires.b_bound.0 h refl,
+      kept_any row_slot rs a.k (length-chunk a.k a.w a.cells.now) a.heads.now a.next.now x a.b c.requires.b_bound.0 h refl (λ q. same q row) (same-only row_slot a.b row c.requires.b_bound.1),
       omega arith,
     )
 
@@ -110,23 +110,20 @@ offset_bounds-next-i c = omega (arith, (inside (goal.at.offset_bounds-next-i c).
 pub bounds-next-i : goal.bounds-next-i
 bounds-next-i c = omega (arith, (inside (goal.at.bounds-next-i c).In-loop-h).0, c.requires.heads_len, c.well_formed)
 
-pub wide-h-requires-in-loop-h : goal.wide-h-requires-in-loop-h
-wide-h-requires-in-loop-h c = omega (arith, (inside (goal.at.wide-h-requires-in-loop-h c).In-loop-h).0, c.requires.heads_len, c.well_formed)
-
 pub loop-h-smaller : goal.loop-h-smaller
 loop-h-smaller c =
     let a = c.args in
     let l = c.loop-h in
-    walk_less a.k a.next.now l.h l.invariant.0 (linked (goal.at.loop-h-smaller c).In-loop-h) c.wide-h-in-loop-h.result c.wide-h-in-loop-h.ensures
+    walk_less a.k a.next.now l.h l.invariant.0 (linked (goal.at.loop-h-smaller c).In-loop-h) (get_or a.next.now (l.h - 1) 0) refl
 
 pub loop-h-preserved : goal.loop-h-preserved
 loop-h-preserved c =
     let a = c.args in
     let l = c.loop-h in
-    let h = c.wide-h-in-loop-h.result in
+    let h : ℕ = get_or a.next.now (l.h - 1) 0 in
     let Q : ℕ → Bool = λ i. same (nth (chunk a.k a.w a.cells.now) i) (take a.w (drop a.src a.cells.now)) in (
-      walk-on a.k a.next.now l.h l.invariant.0 (linked (goal.at.loop-h-preserved c).In-loop-h) h c.wide-h-in-loop-h.ensures,
-      l.invariant.1 ∙ ap (any Q) (walk-next a.k a.next.now l.h l.invariant.0 (linked (goal.at.loop-h-preserved c).In-loop-h) h c.wide-h-in-loop-h.ensures) ∙ ap (λ (t : Bool). t || any Q (chain (suc a.k) a.next.now h)) (row (goal.at.loop-h-preserved c).After-same_row ∙ c.if-same_row.false),
+      walk-on a.k a.next.now l.h l.invariant.0 (linked (goal.at.loop-h-preserved c).In-loop-h) h refl,
+      l.invariant.1 ∙ ap (any Q) (walk-next a.k a.next.now l.h l.invariant.0 (linked (goal.at.loop-h-preserved c).In-loop-h) h refl) ∙ ap (λ (t : Bool). t || any Q (chain (suc a.k) a.next.now h)) (row (goal.at.loop-h-preserved c).After-same_row ∙ c.if-same_row.false),
       step (goal.at.loop-h-preserved c).Else-steps-eq-LONG_CHAIN,
     )
 

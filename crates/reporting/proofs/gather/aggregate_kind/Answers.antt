@@ -1,8 +1,5 @@
-use borrow.Author.Tests.{ne_eqb}
-use native.Mathlib.Omega.{arith}
-use mathlib.Core.Path.{◌≡◌, refl, sym, ap, ◌∙◌}
+use mathlib.Core.Path.{◌≡◌, refl, ◌∙◌}
 use mathlib.Core.Logic.{◌⊎◌}
-use Prim.Native.Nat.{ℕ}
 use Rattle.algebra.specs.Cells.{count}
 use Rattle.reading.specs.Tree.{aggregate_of, operator_of, operator_by}
 use Rattle.reading.specs.declared.kinds.Kind.{Kind}
@@ -19,19 +16,8 @@ coded node =
     let P : Kind → Type 0 = λ k. aggregate_of node.arg node.column ≡ aggregate_in (operator_by k node) in
     one_of P refl (one_of P refl (just P refl))
 
-pub returns-in-0 : goal.returns-in-0
-returns-in-0 c = let node = c.args.node in sym (ap (λ (k : ℕ). aggregate_of k node.column) c.in-0.is) ∙ coded node c.in-Fold.is
-
-pub returns-in-1 : goal.returns-in-1
-returns-in-1 c = let node = c.args.node in sym (ap (λ (k : ℕ). aggregate_of k node.column) c.in-1.is) ∙ coded node c.in-Fold.is
-
-pub returns-in-2 : goal.returns-in-2
-returns-in-2 c = let node = c.args.node in sym (ap (λ (k : ℕ). aggregate_of k node.column) c.in-2.is) ∙ coded node c.in-Fold.is
-
-pub returns-in_default-arg : goal.returns-in_default-arg
-returns-in_default-arg c =
-    let node = c.args.node in
-    sym (rw (ne_eqb node.arg 0 (omega arith), ne_eqb node.arg 1 (omega arith), ne_eqb node.arg 2 (omega arith))) ∙ coded node c.in-Fold.is
+pub returns-in-Fold : goal.returns-in-Fold
+returns-in-Fold c = c.aggregate_kind.ensures ∙ coded c.args.node c.in-Fold.is
 
 -- a kind without an aggregate counts
 pub returns-in_default : goal.returns-in_default

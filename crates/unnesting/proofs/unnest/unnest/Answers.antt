@@ -1,11 +1,10 @@
-use mathlib.Core.Path.{refl, ◌∙◌}
+use mathlib.Core.Path.{refl}
+use Rattle.std.proofs.lemmas.Result.{err_from_is_err_and}
 use Rattle.unnesting.proofs.UnnestLaws.{turned-back}
 use Rattle.unnesting.proofs.unnest.unnest.Goals as goal
 
-pub returns-in-Err : goal.returns-in-Err
-returns-in-Err c =
+pub returns-in_err-input : goal.returns-in_err-input
+returns-in_err-input c =
     let a = c.args in
-    turned-back a.set.now a.plan.now a.out_plan.now a.out_steps.now a.scratch.now a.scratch.now _ _ _ _ c.in-Err.ensures.0 c.in-Err.ensures.1 (c.refused.ensures.0 ∙ c.from.ensures, c.refused.ensures.1, c.refused.ensures.2) refl
-
-pub returns-in-Ok : goal.returns-in-Ok
-returns-in-Ok c = rw (c.in-Ok.ensures.0, c.in-Ok.ensures.1) at c.unnest_accepted.ensures
+    let p = err_from_is_err_and c.from_residual.result c.from_residual.ensures.1 in
+    rw (p.1, p.2) (turned-back a.set.now a.plan.now a.out_plan.now a.out_steps.now a.scratch.now a.scratch.now _ _ _ _ c.in_err-input.ensures.0 c.in_err-input.ensures.1 (refl, refl, refl) refl)

@@ -2,10 +2,10 @@ use Prim.Native.Nat.{ℕ}
 use mathlib.Core.Path.{◌≡◌, refl, sym, ap, ◌∙◌}
 use mathlib.Core.Bool.{true, false}
 use Rattle.algebra.specs.Cells.{off_scale}
-use Rattle.reporting.specs.Sides.{aggregate_by}
+use Rattle.reading.specs.Tree.{aggregate_by}
 use Rattle.reporting.specs.Tallies.{tallied}
-use Rattle.reporting.specs.declared.gather.AggregateKind.{AggregateKind}
-use Rattle.reporting.specs.declared.gather.AggregateKind.TheVariants.{Count, Sum, Least, Greatest}
+use Rattle.reading.specs.declared.plan.AggregateKind.{AggregateKind}
+use Rattle.reading.specs.declared.plan.AggregateKind.TheVariants.{Count, Sum, Least, Greatest}
 use Rattle.reporting.specs.declared.gather.Tally.{Tally}
 use Rattle.reporting.proofs.gather.Tally.result.Goals as goal
 

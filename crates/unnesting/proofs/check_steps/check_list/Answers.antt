@@ -6,8 +6,8 @@ use Prim.Native.Nat.{ℕ, ◌*◌, ◌/◌}
 use lib.ListN.{length, get_or}
 use Rattle.unnesting.proofs.FollowLaws.{paired}
 use Rattle.unnesting.proofs.CheckStepsLaws.{list_odd, list-rules, rules-end, rules-next, rules-low, rules-high}
-use Rattle.unnesting.proofs.check_steps.list_number.Goals as goal
-use Rattle.unnesting.proofs.check_steps.list_number.Goals.{In-loop-pair}
+use Rattle.unnesting.proofs.check_steps.check_list.Goals as goal
+use Rattle.unnesting.proofs.check_steps.check_list.Goals.{In-loop-pair}
 
 rule : (c : In-loop-pair) → get_or (get_or c.as_chunks.result.0.now c.loop-pair.pair-index []) 0 0 ≡ get_or c.args.steps.now (2 * c.loop-pair.pair-index) 0
 rule c =

@@ -1,9 +1,0 @@
-use Rattle.reading.proofs.FlagLaws.{adds_none}
-use Rattle.reading.proofs.ViewLaws.{measured-none, measured-one}
-use Rattle.reading.proofs.free.add_measure.Goals as goal
-
-pub returns-then-aggregate-eq0 : goal.returns-then-aggregate-eq0
-returns-then-aggregate-eq0 c = rw (measured-none c.args.node.arg c.args.node.column c.if-aggregate-eq0.true) (adds_none _)
-
-pub returns : goal.returns
-returns c = rw (measured-one c.args.node.arg c.args.node.column c.if-aggregate-eq0.false) c.add_id.ensures
