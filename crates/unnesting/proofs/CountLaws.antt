@@ -32,7 +32,8 @@ use Rattle.reading.proofs.Ends.{end_at}
 use Rattle.reading.proofs.Operators.{each_kind, one_of, just}
 use Rattle.reading.proofs.Places.{root-at}
 use Rattle.reading.proofs.PlanBytes.{PlanKnown, plan_passed}
-use Rattle.unnesting.specs.Counts.{key_only, keyed, is_anti, count_change}
+use Rattle.reporting.specs.Sides.{is_anti}
+use Rattle.unnesting.specs.Counts.{key_only, keyed, count_change}
 use Rattle.unnesting.specs.Images.{image, plain_node, project_node, is_named, test_comparison}
 use Rattle.unnesting.specs.declared.change.More.TheVariants.{Nothing}
 use Rattle.unnesting.specs.Shapes.{any_sequence, shape, node_slice, more_bytes, Makes}

@@ -5,13 +5,15 @@ use Rattle.std.proofs.Math.Option.{Option, none, some}
 use Rattle.algebra.specs.Plans.{Tables, Plan}
 use Rattle.algebra.specs.Places.{modify}
 use Rattle.algebra.specs.Refusals.{need, passes}
-use Rattle.algebra.specs.Rules.{fresh}
-use Rattle.algebra.specs.Steps.{accepted, attempt, fitted}
+use Rattle.algebra.specs.Rules.{fresh, number_at}
+use Rattle.algebra.specs.Steps.{Step, accepted, attempt, fitted}
 use Rattle.algebra.specs.Demand3.{Still}
 use Rattle.reading.specs.TableSet.{tables_of}
 use Rattle.reading.specs.Encoding.{plan_bytes}
 use Rattle.reading.specs.Tree.{plan_of}
 use Rattle.reading.specs.Check.{input_refusal}
+use Rattle.reading.specs.Refusals.{refusal_number}
+use Rattle.reading.specs.declared.refusal.Refusal.{Refusal}
 use Rattle.unnesting.specs.Unnest.{unnest_steps, unnest_need, written_steps, written_plan}
 use Rattle.unnesting.specs.Demand3.{bytes_left}
 use Rattle.unnesting.specs.CheckSteps.{listed, reached_need}
@@ -25,6 +27,14 @@ use Rattle.unnesting.specs.declared.follow.Stopped.TheVariants.{Short, Unfit}
 -- the plan after the rule at a place, where rows do not stand against it and it passes 8 to 14
 abbrev pub possible : Tables → Plan → ℕ → Option Plan
 possible T p i = accepted T (modify (shape T (fresh T p)) p i)
+
+-- a refusal turns back an input
+abbrev pub TurnsBack : List ℕ → List ℕ → Refusal → Type 0
+TurnsBack set plan refusal = (input_refusal set plan ≡ refusal_number refusal) × (0 < refusal_number refusal)
+
+-- the step that the node at a place names
+abbrev pub named_step : Plan → ℕ → Step
+named_step p i = record { number = number_at p i; place = i }
 
 -- an accepted plan q, as bytes at the front of a buffer, with its need
 pub record Stored (set buffer : List ℕ) (long cells : ℕ) (q : Plan) : Type 0 where

@@ -10,6 +10,7 @@ use Rattle.reading.specs.TableSet.{tables_of}
 use Rattle.reading.specs.Tree.{plan_of}
 use Rattle.reading.specs.Encoding.{plan_bytes}
 use Rattle.reading.specs.Check.{or_next, input_refusal}
+use Rattle.reading.specs.Refusals.{number_of}
 use Rattle.reading.specs.declared.refusal.Refusal.{Refusal}
 use Rattle.reporting.specs.Report.{count_after, scratch_after}
 use Rattle.unnesting.specs.declared.unnest.Unnested.{Unnested as Counts}
@@ -97,3 +98,8 @@ pub record Unnested (set plan plan_out plan_out' steps_out steps_out' scratch sc
   pub plan_written : plan_out' ≡ bytes_after (unnest_number set plan (length plan_out) (length steps_out) (length scratch)) (written_plan set plan) plan_out
   pub steps_written : steps_out' ≡ bytes_after (unnest_number set plan (length plan_out) (length steps_out) (length scratch)) (written_steps set plan) steps_out
   pub cleared : scratch' ≡ scratch_after (input_refusal set plan) scratch
+
+-- the same of the result that is returned
+abbrev pub Returned : List ℕ → List ℕ → List ℕ → List ℕ → List ℕ → List ℕ → List ℕ → List ℕ → Result Counts Refusal → Type 0
+Returned set plan plan_out plan_out' steps_out steps_out' scratch scratch' r =
+    Unnested set plan plan_out plan_out' steps_out steps_out' scratch scratch' (number_of r) (answered_steps r) (answered_bytes r)

@@ -10,7 +10,8 @@ ghost use Rattle.reading.specs.Tree.{node_test, plan_at};
 ghost use Rattle.reading.specs.declared.kinds.Kind.TheVariants.{Select, Semi, Anti, Pair, Group};
 ghost use Rattle.reading.specs.declared.comparison.Comparison.TheVariants.{Equal, Greater};
 ghost use Rattle.reading.specs.declared.plan.Test.TheVariants.{Number};
-ghost use Rattle.unnesting.specs.Counts.{count_change, is_anti, key_only, keyed};
+ghost use Rattle.reporting.specs.Sides.{is_anti};
+ghost use Rattle.unnesting.specs.Counts.{count_change, key_only, keyed};
 ghost use Rattle.unnesting.specs.Images.{plain_node, project_node};
 ghost use Rattle.unnesting.specs.Shapes.{Shaped, ShapedAt};
 

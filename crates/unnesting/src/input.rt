@@ -1,10 +1,10 @@
 // An input of the calls, once it is checked.
-ghost use Rattle.std.specs.Prelude.{◌≡◌, ◌<◌, true, Ok, MatchResult};
+ghost use Rattle.std.specs.Prelude.{◌≡◌, true, Ok, MatchResult};
 ghost use Rattle.algebra.specs.Refusals.{need as plan_need, passes};
 ghost use Rattle.reading.specs.TableSet.{read_set, tables_of};
 ghost use Rattle.reading.specs.Tree.{plan_of};
 ghost use Rattle.reading.specs.Check.{input_refusal};
-ghost use Rattle.reading.specs.Refusals.{refusal_number};
+ghost use Rattle.unnesting.specs.Attempts.{TurnsBack};
 
 use reading::input::check_input;
 use reading::refusal::Refusal;
@@ -26,7 +26,7 @@ pub(crate) struct Input<'a> {
 impl<'a> Input<'a> {
     // Checks a set and a plan: the input, or the refusal of 1 to 14 that turns it back.
     pub(crate) fn check(set: &'a [u8], plan: &'a [u8]) -> Result<Input<'a>, Refusal>
-        ensures { MatchResult result (λ input. (input.set.now ≡ set.now) × (input.plan.now ≡ plan.now)) (λ refusal. (input_refusal set.now plan.now ≡ refusal_number refusal) × (0 < refusal_number refusal)) }
+        ensures { MatchResult result (λ input. (input.set.now ≡ set.now) × (input.plan.now ≡ plan.now)) (TurnsBack set.now plan.now) }
     {
         let known = check_input(set, plan)?;
         Ok(Input {

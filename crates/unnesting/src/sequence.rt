@@ -1,8 +1,8 @@
 // The two sequences that U3, U4 and U6 compare, and whether rows stand against a rule.
-ghost use Rattle.std.specs.Prelude.{◌≡◌, not, true, ◌≢◌, [], ◌∷◌, ◌<◌, ◌≤◌, length, take};
+ghost use Rattle.std.specs.Prelude.{◌≡◌, not, true, ◌≢◌, ◌<◌, ◌≤◌, length, take};
 ghost use Rattle.std.proofs.Math.Option.{none};
 ghost use Rattle.algebra.specs.Lists.{is_empty};
-ghost use Rattle.algebra.specs.Plans.{distinct, eval, one};
+ghost use Rattle.algebra.specs.Plans.{eval};
 ghost use Rattle.algebra.specs.Refusals.{width};
 ghost use Rattle.algebra.specs.Rules.{bare, fresh, outside, rule_of, top};
 ghost use Rattle.algebra.specs.StayNotes.{comparing, first_difference, sequences_of};
@@ -10,7 +10,7 @@ ghost use Rattle.reading.specs.TableSet.{tables_of};
 ghost use Rattle.reading.specs.Plan.{node_at, nodes_of};
 ghost use Rattle.reading.specs.Tree.{plan_of, plan_at, whole_tree};
 ghost use Rattle.unnesting.specs.Shapes.{number_of_rule, shape, ready};
-ghost use Rattle.unnesting.specs.Sequences.{ComparedAs, rows_of_one};
+ghost use Rattle.unnesting.specs.Sequences.{ComparedAs, PairCompared, rows_of_one, values_and_keys};
 
 use crate::input::Input;
 use crate::rule::Rule;
@@ -78,7 +78,7 @@ pub(crate) fn compare_sequences(
 ) -> Option<usize>
     requires room { input.need ≤ length scratch.old }
     requires e_value { width (tables_of input.set.now) (plan_at input.plan.now e) ≡ 1 }
-    ensures { ComparedAs (eval (tables_of input.entry.set.now) (plan_at input.entry.plan.now e) outside) (eval (tables_of input.entry.set.now) (one (distinct (key ∷ [])) (plan_at input.entry.plan.now h)) outside) result }
+    ensures { PairCompared (values_and_keys input.entry.set.now input.entry.plan.now e h key) result }
 {
     let first = rows_at(input.set, input.plan, e, scratch).unwrap();
     let n = first.rows;
@@ -112,7 +112,7 @@ pub(crate) fn sequences_at(
     requires room { input.need ≤ length scratch.old }
     requires i_bound { (i < nodes_of input.plan.now) × (node ≡ node_at input.plan.now i) × (comparing (rule_of (plan_at input.plan.now i)) ≡ true) }
     requires i_nonzero { shape (tables_of input.set.now) (fresh (tables_of input.set.now) (plan_of input.plan.now)) (plan_at input.plan.now i) ≢ none }
-    ensures { ComparedAs (sequences_of (tables_of input.entry.set.now) (plan_at input.entry.plan.now i)).first (sequences_of (tables_of input.entry.set.now) (plan_at input.entry.plan.now i)).second result }
+    ensures { PairCompared (sequences_of (tables_of input.entry.set.now) (plan_at input.entry.plan.now i)) result }
 {
     let e = i + 1;
     let f = tree_end(input.plan, e);

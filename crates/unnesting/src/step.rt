@@ -1,11 +1,10 @@
 // Trying the rules at the places of a plan: the plan after a step stands at the front of a buffer.
 ghost use Rattle.std.specs.Prelude.{◌≡◌, ◌<◌, ◌≤◌, length};
-ghost use Rattle.algebra.specs.Rules.{number_at};
 ghost use Rattle.algebra.specs.Steps.{attempt};
 ghost use Rattle.reading.specs.TableSet.{tables_of};
 ghost use Rattle.reading.specs.Plan.{node_at, nodes_of};
 ghost use Rattle.reading.specs.Tree.{plan_of};
-ghost use Rattle.unnesting.specs.Attempts.{Finds, Tells, possible};
+ghost use Rattle.unnesting.specs.Attempts.{Finds, Tells, named_step, possible};
 
 use crate::change::write_change;
 use crate::input::Input;
@@ -65,7 +64,7 @@ fn step_at(
 ) -> Option<Next>
     requires i_bound { (i < nodes_of input.plan.now) × (node ≡ node_at input.plan.now i) × (length out.old ≡ 2086) }
     requires room { input.need ≤ length scratch.old }
-    ensures { Tells input.entry.set.now out.new (attempt (tables_of input.entry.set.now) (record { number = number_at (plan_of input.entry.plan.now) i; place = i }) (plan_of input.entry.plan.now)) result }
+    ensures { Tells input.entry.set.now out.new (attempt (tables_of input.entry.set.now) (named_step (plan_of input.entry.plan.now) i) (plan_of input.entry.plan.now)) result }
 {
     let next = possible_at(input, i, node, out)?;
     if ready_at(input, i, node, scratch) {

@@ -1,6 +1,5 @@
 // The unnesting call.
-ghost use Rattle.reading.specs.Refusals.{number_of};
-ghost use Rattle.unnesting.specs.Unnest.{answered_steps, answered_bytes, Unnested as Answered};
+ghost use Rattle.unnesting.specs.Unnest.{Returned};
 
 use crate::image::write_bytes;
 use crate::input::Input;
@@ -22,7 +21,7 @@ fn unnest_accepted(
     out_steps: &mut [u8],
     scratch: &mut [u64],
 ) -> Result<Unnested, Refusal>
-    ensures { Answered input.entry.set.now input.entry.plan.now out_plan.old out_plan.new out_steps.old out_steps.new scratch.old scratch.new (number_of result) (answered_steps result) (answered_bytes result) }
+    ensures { Returned input.entry.set.now input.entry.plan.now out_plan.old out_plan.new out_steps.old out_steps.new scratch.old scratch.new result }
 {
     let mut current = [0u8; 2086];
     let mut next = [0u8; 2086];
@@ -56,7 +55,7 @@ pub fn unnest(
     out_steps: &mut [u8],
     scratch: &mut [u64],
 ) -> Result<Unnested, Refusal>
-    ensures { Answered set.now plan.now out_plan.old out_plan.new out_steps.old out_steps.new scratch.old scratch.new (number_of result) (answered_steps result) (answered_bytes result) }
+    ensures { Returned set.now plan.now out_plan.old out_plan.new out_steps.old out_steps.new scratch.old scratch.new result }
 {
     let input = Input::check(set, plan)?;
     unnest_accepted(input, out_plan, out_steps, scratch)
