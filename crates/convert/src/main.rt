@@ -75,25 +75,31 @@ fn convert(
     keep(rt, alloc, answer, out_set, out_plan);
 }
 
-// The plan's buffer has one byte more than the longest plan, so that a longer file is turned back as the whole of it would be.
-fn main(rt: HostRuntime) {
-    let Some(direction) = told(&rt) else {
-        let _ = println!(rt; "convert up|down");
-        return;
-    };
+// Converts the files. The plan's buffer has one byte more than the longest plan, so that a longer file is turned back as the whole of it would be.
+fn convert_files(rt: &(impl Files + Print + Eprint), alloc: Global, direction: Direction) {
     let mut set = set_bytes();
     let mut plan = [0u8; 2055];
-    let set_length = read_file(&rt, b"club.tbl", &mut set);
-    let plan_length = read_file(&rt, b"club.rpt", &mut plan);
+    let set_length = read_file(rt, b"club.tbl", &mut set);
+    let plan_length = read_file(rt, b"club.rpt", &mut plan);
     let mut out_set = set_bytes();
     let mut out_plan = [0u8; 2054];
     convert(
-        &rt,
-        rt.alloc(),
+        rt,
+        alloc,
         direction,
         head(&set, set_length),
         head(&plan, plan_length),
         &mut out_set,
         &mut out_plan,
     );
+}
+
+// The buffers stand in a function of their own: where one function asks for the argument and has them too, they are cleared twice.
+fn main(rt: HostRuntime) {
+    match told(&rt) {
+        Some(direction) => convert_files(&rt, rt.alloc(), direction),
+        None => {
+            let _ = println!(rt; "convert up|down");
+        }
+    }
 }

@@ -33,7 +33,9 @@ impl fmt::Display for Shown {
 pub(crate) fn cell_shown(code: i64) -> Shown
     ensures { result ≡ shown_of code }
 {
-    if code == i64::MIN {
+    // The code of a blank has a name, so that an edit of it alone is refused (must-fail, blank_as_number).
+    let blank = i64::MIN;
+    if code == blank {
         return Shown::Blank;
     }
     if code == i64::MAX {

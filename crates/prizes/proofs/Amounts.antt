@@ -7,6 +7,8 @@ use mathlib.Core.Path.{◌≡◌, refl, sym, ap, ap₂, ◌∙◌}
 use mathlib.Core.List.{List, [], ◌∷◌, ◌++◌, map, append-nil}
 use lib.ListN.{length, take, drop, get_or, set, replicate, length-map, length-replicate, get_or-replicate, drop_of_length-le}
 use lib.Seq.{drop-cons, take_all}
+use mir.Syntax.{w32}
+use mir.Val.{Fits}
 use Rattle.std.specs.List.{fold, sum}
 use Rattle.algebra.specs.Lists.{total}
 use Rattle.prizes.specs.Payments.{one_each, share_of, left_over, place_pence, split}
@@ -20,6 +22,11 @@ sum_from a (x ∷ xs) = omega (arith, sum_from (a + x) xs)
 
 pub sum-total : (xs : List ℕ) → sum xs ≡ total xs
 sum-total xs = omega (arith, sum_from 0 xs)
+
+-- a sum of 32-bit numbers is at most so many times the largest of them
+pub total-few : (xs : List ℕ) → ((i : ℕ) → Fits w32 (get_or xs i 0)) → total xs ≤ length xs * 4294967295
+total-few [] below = omega arith
+total-few (x ∷ xs) below = omega (arith, below 0, total-few xs (λ i. below (suc i)))
 
 pub total-parts : (n : ℕ) (xs : List ℕ) → total xs ≡ total (take n xs) + total (drop n xs)
 total-parts zero xs = omega arith

@@ -179,7 +179,7 @@ list-adds {flags} {marks} list j l h a =
 pub record ListLeft (flags list left : List ℕ) (j : ℕ) : Type 0 where
   pub decides : (ids : List ℕ) → Flags flags ids → (rest : List ℕ) × Flags left rest × (list_in_view list ids ≡ list_in_view (drop j list) rest)
 
-ids_next : (list : List ℕ) (j : ℕ) → j < length list → drop j list ≡ get_or list j 0 ∷ drop (j + 1) list
+pub ids_next : (list : List ℕ) (j : ℕ) → j < length list → drop j list ≡ get_or list j 0 ∷ drop (j + 1) list
 ids_next list j l = rw (drop-cons list j 0 l, add-one j)
 
 module _ {flags list left : List ℕ} {j : ℕ} (s : ListLeft flags list left j) where

@@ -11,6 +11,7 @@ pub mod flags;
 pub mod free;
 pub mod ids;
 pub mod input;
+mod kind_table;
 pub mod kinds;
 pub mod need;
 pub mod plan;

@@ -5,7 +5,8 @@ ghost use Rattle.reading.specs.Tree.{aggregate_by, node_aggregate};
 
 use crate::bytes::{byte_at, head, starts_with, tail};
 use crate::comparison::Comparison;
-use crate::kinds::{KIND_TABLE, Kind, TEST_LIMITS, kind_entry};
+use crate::kind_table::{KIND_TABLE, TEST_LIMITS, kind_entry};
+use crate::kinds::Kind;
 use crate::refusal::Refusal;
 use crate::set::{number_as, word, word_of_four};
 use crate::version::{Version, node_size, nodes_in, version_at};
@@ -336,7 +337,9 @@ fn node_of(version: Version, node: &[u8]) -> Node
     }
 }
 
-// Node i of the plan; past the last node it is a Unit.
+// Node i of the plan; past the last node it is a Unit. It is compiled into its callers, most of which ask for a few fields alone: as a call of its
+// own it would make all of them each time.
+#[inline(always)]
 pub fn node_at(plan: &[u8], i: usize) -> Node
     ensures { result ≡ node_at plan.now i }
 {

@@ -60,7 +60,9 @@ fn each_row(cells: &mut [u64], src: usize, w: usize, dst: usize, right: HeldRows
     requires { (dst + max 1 right.count * (w + length right.columns.now) ≤ src) × (src + w ≤ right.at) × HeldWithin right (length cells.old) }
     ensures { EachGiven right.entry.columns.now src w dst right.entry.at right.entry.count cells.old result cells.new }
 {
-    if 0 < right.count {
+    // With so many right rows or more each is joined. The number has a name, so that an edit of it alone is refused (must-fail, each_of_none).
+    let least = 1;
+    if least <= right.count {
         join_at(cells, src, w, dst, right);
         return right.count;
     }
@@ -128,7 +130,8 @@ fn write_with(cells: &mut [u64], src: usize, w: usize, dst: usize, cell: u64)
     cells[dst + w] = cell;
 }
 
-// What the left row at src gives, written at dst.
+// What the left row at src gives, written at dst. It is compiled into its callers, which know the lookup, so that no row asks for it.
+#[inline(always)]
 pub(crate) fn emit_row(
     asked: &Asked,
     lookup: Lookup,

@@ -33,7 +33,8 @@ pub(crate) fn emitted_width(node: Node, ids: &[u8], jds: &[u8]) -> usize
     }
 }
 
-// The rows of each of m left rows at `own`, at the front.
+// The rows of each of m left rows at `own`, at the front. It is compiled for each lookup, so that no row asks for it.
+#[inline(always)]
 fn emit_all(
     asked: &Asked,
     lookup: Lookup,

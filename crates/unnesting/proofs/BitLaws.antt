@@ -144,6 +144,14 @@ part-of {s} {ids} h q l = record {
       ap₂ (λ (x y : ℕ). bit (word s x) y) (sym e) (sym f) ∙ h.right (64 * q + k) (omega arith);
 }
 
+-- and a set whose words are those of a list's ids holds the list (cited by nothing; it is for a reader)
+pub whole : {s : IdSet} {ids : List ℕ} → ((q : ℕ) → q < 4 → Part (word s q) (64 * q) ids) → Holds s ids
+whole {s} {ids} p = record {
+  right = λ i l.
+      let e : 64 * (i / 64) + i % 64 ≡ i = omega arith in
+      (p (i / 64) (omega arith)).right (i % 64) (omega arith) ∙ ap (λ (x : ℕ). member x ids) e;
+}
+
 pub holds_none : Holds (record { words = replicate 4 0 }) []
 holds_none = record { right = λ i l. ap (λ (x : ℕ). bit x (i % 64)) (get_or-replicate 4 (i / 64) 0 0 (omega arith)) ∙ bit-zero (i % 64) }
 

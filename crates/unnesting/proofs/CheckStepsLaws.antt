@@ -79,12 +79,12 @@ module _ (set plan steps theirs scratch scratch' : List ℕ) (refusal : ℕ) whe
 
     module _ (allowed : list_number steps ≡ 0) where
       -- then 16, by the plans reached
-      check_16 : length scratch < reached_need set plan steps → refusal ≡ 16 → Answer
+      pub check_16 : length scratch < reached_need set plan steps → refusal ≡ 16 → Answer
       unfolding check_steps_number
       check_16 h a = record { number = a ∙ sym (rw (passed, allowed, lt-ltb (length scratch) (reached_need set plan steps) h)); cleared = rw passed clean }
 
       -- then 21, where a step does not fit
-      check_unfit : Fails set plan steps (length scratch) → refusal ≡ 21 → Answer
+      pub check_unfit : Fails set plan steps (length scratch) → refusal ≡ 21 → Answer
       unfolding check_steps_number end_number
       check_unfit f a =
           record {

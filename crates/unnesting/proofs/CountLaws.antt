@@ -9,6 +9,7 @@ use mathlib.Core.Option.{Option, none, some}
 use native.Mathlib.Omega.{arith}
 use lib.Dec.{eqb, leb}
 use lib.ListN.{length, take, get_or}
+use borrow.Author.Tests.{ne_eqb}
 use Rattle.algebra.specs.Lists.{every, flat_map}
 use Rattle.algebra.specs.Cells.{Comparison, eq, gt, Aggregate, count, origin}
 use Rattle.algebra.specs.Plans.{Tables, test, Test as MarkedTest, plain, is_plain, number_of, Unary, select, project, distinct, group, sort, Binary, semi, pair, Plan, leaf, one, two}
@@ -19,7 +20,7 @@ use Rattle.algebra.proofs.Places.{size-positive}
 use Rattle.reading.specs.Check.{input_refusal}
 use Rattle.reading.specs.TableSet.{tables_of}
 use Rattle.reading.specs.Versions.{node_size}
-use Rattle.reading.specs.Plan.{plan_version, node_part, node_of, node_at, nodes_of}
+use Rattle.reading.specs.Plan.{kind_number, plan_version, node_part, node_of, node_at, nodes_of}
 use Rattle.reading.specs.Tree.{comparison_of, node_test, node_list, node_aggregate, form_of, operator_by, operator_of, plan_at, whole_tree}
 use Rattle.reading.specs.Encoding.{node_bytes}
 use Rattle.reading.specs.declared.plan.Test.{Test}
@@ -131,6 +132,27 @@ abbrev pub is_project : Operator → Bool
 is_project (unary_node (project ids)) = true
 is_project op = false
 
+-- the number of a kind with one child
+abbrev unary_kind : Unary → ℕ
+unary_kind (select t) = 2
+unary_kind (project ids) = 3
+unary_kind (distinct ids) = 4
+unary_kind (group a n l r c t) = 13
+unary_kind (sort d ids) = 14
+
+abbrev pub has_kind : ℕ → Operator → Bool
+has_kind d (leaf_node x) = false
+has_kind d (unary_node u) = eqb (unary_kind u) d
+has_kind d (binary_node b) = false
+
+-- of a node of another kind (cited by nothing; it is for a reader)
+pub other-kind : (d : ℕ) (node : Node) (k : Kind) → (kind_number k ≡ d → ⊥) → has_kind d (operator_by k node) ≡ false
+unfolding operator_by
+other-kind d node =
+    each_kind (λ k. (kind_number k ≡ d → ⊥) → has_kind d (operator_by k node) ≡ false)
+    (λ n. refl) (λ n. refl) (ne_eqb 2 d) (ne_eqb 3 d) (ne_eqb 4 d) (λ n. refl) (λ n. refl) (λ n. refl) (λ n. refl) (λ n. refl) (λ n. refl) (λ n. refl) (λ n. refl) (ne_eqb 13 d) (ne_eqb 14 d) (λ k n. refl)
+
+-- the two kinds that a rule looks for
 pub other-select : (node : Node) (k : Kind) → (k ≡ Select → ⊥) → is_select (operator_by k node) ≡ false
 unfolding operator_by
 other-select node =

@@ -1,6 +1,6 @@
 -- The unnesting call's number: 16 is met before 15, and by every plan passed through. Assumes nothing.
 use Prim.Native.Nat.{ℕ, zero, suc, ◌+◌, ◌≤◌, ◌<◌}
-use mathlib.Core.Path.{◌≡◌, sym, ◌∙◌}
+use mathlib.Core.Path.{◌≡◌, sym, ◌∙◌, subst}
 use mathlib.Core.List.{List, [], ◌∷◌, ◌++◌, map}
 use native.Mathlib.Omega.{arith}
 use lib.ListN.{length, drop, replicate}
@@ -8,6 +8,8 @@ use borrow.Author.Tests.{lt-ltb, le-ltb}
 use Rattle.algebra.specs.Plans.{Tables, Plan}
 use Rattle.algebra.specs.Refusals.{need}
 use Rattle.algebra.specs.Steps.{Step, or_else, attempt, after}
+use Rattle.reading.specs.TableSet.{tables_of}
+use Rattle.reading.specs.Tree.{plan_of}
 use Rattle.reading.specs.Check.{input_refusal}
 use Rattle.reporting.specs.Report.{scratch_after}
 use Rattle.unnesting.specs.Unnest.{unnest_steps, passed_through, largest, unnest_need, written_steps, written_plan, unnest_number, Unnested}
@@ -56,6 +58,16 @@ module _ (set plan : List ℕ) (plan_room step_room scratch_room : ℕ) where
       unfolding unnest_number
       unnest_0 h k =
           rw (passed, le-ltb scratch_room (unnest_need set plan) enough, le-ltb plan_room (length (written_plan set plan)) h, le-ltb step_room (length (written_steps set plan)) k)
+
+    -- a plan that the run passes through, the given and the last included, whose need scratch does not meet: 16 (cited by nothing; it is for a reader)
+    pub unnest-passed : (us vs : List Step) → unnest_steps set plan ≡ us ++ vs → scratch_room < need (tables_of set) (after (tables_of set) us (plan_of plan))
+        → unnest_number set plan plan_room step_room scratch_room ≡ 16
+    unfolding unnest_need
+    unnest-passed us vs e h =
+        let T = tables_of set in
+        let n : need T (after T us (plan_of plan)) ≤ unnest_need set plan =
+        subst (λ (ss : List Step). need T (after T us (plan_of plan)) ≤ largest (map (need T) (passed_through T ss (plan_of plan)))) (sym e) (passed-need T us vs (plan_of plan)) in
+        unnest_16 (omega arith)
 
 -- ---- the ends of the call
 

@@ -3,10 +3,12 @@
 use Rattle.std.specs.Prelude.{ℕ, ◌≡◌, List, ℤ, length, Option, Result}
 use Rattle.std.proofs.Math.Option.{some}
 use Rattle.algebra.specs.StayNotes.{Sequences, first_difference, SmallestDifference}
+use Rattle.reading.specs.Refusals.{number_of}
 use Rattle.reading.specs.declared.refusal.Refusal.{Refusal}
 use Rattle.reporting.specs.declared.answer.Report.{Report}
 use Rattle.reporting.specs.Report.{Reported}
-use Rattle.unnesting.specs.Unnest.{Unnested}
+use Rattle.unnesting.specs.declared.unnest.Unnested.{Unnested as Counts}
+use Rattle.unnesting.specs.Unnest.{Returned}
 use Rattle.unnesting.specs.StayNote.{note_due, StayNoted}
 use Rattle.unnesting.specs.CheckSteps.{StepsChecked}
 
@@ -31,10 +33,10 @@ ReportPromise (set, plan) (out, scratch) (out', scratch') r = Reported set plan 
 abbrev pub report_sizes : List ℤ × List ℕ → ℕ × ℕ
 report_sizes (out, scratch) = (length out, length scratch)
 
--- given a set and a plan; lent an output for the plan, one for the steps, and scratch; the answer is a refusal, steps and bytes
-abbrev pub UnnestPromise : List ℕ × List ℕ → List ℕ × List ℕ × List ℕ → List ℕ × List ℕ × List ℕ → ℕ × ℕ × ℕ → Type 0
-UnnestPromise (set, plan) (plan_out, steps_out, scratch) (plan_out', steps_out', scratch') (refusal, steps, bytes) =
-    Unnested set plan plan_out plan_out' steps_out steps_out' scratch scratch' refusal steps bytes
+-- given a set and a plan; lent an output for the plan, one for the steps, and scratch
+abbrev pub UnnestPromise : List ℕ × List ℕ → List ℕ × List ℕ × List ℕ → List ℕ × List ℕ × List ℕ → Result Counts Refusal → Type 0
+UnnestPromise (set, plan) (plan_out, steps_out, scratch) (plan_out', steps_out', scratch') r =
+    Returned set plan plan_out plan_out' steps_out steps_out' scratch scratch' r
 
 abbrev pub unnest_sizes : List ℕ × List ℕ × List ℕ → ℕ × ℕ × ℕ
 unnest_sizes (plan_out, steps_out, scratch) = (length plan_out, length steps_out, length scratch)
@@ -43,9 +45,9 @@ unnest_sizes (plan_out, steps_out, scratch) = (length plan_out, length steps_out
 abbrev pub StayNotePromise : List ℕ × List ℕ × ℕ → List ℕ → List ℕ → Result (Option ℕ) Refusal → Type 0
 StayNotePromise (set, plan, place) scratch scratch' r = StayNoted set plan place scratch scratch' r
 
--- given a set, a plan, a list of steps and the plan theirs; lent scratch; the answer is a refusal
-abbrev pub CheckStepsPromise : List ℕ × List ℕ × List ℕ × List ℕ → List ℕ → List ℕ → ℕ → Type 0
-CheckStepsPromise (set, plan, steps, theirs) scratch scratch' refusal = StepsChecked set plan steps theirs scratch scratch' refusal
+-- given a set, a plan, a list of steps and the plan theirs; lent scratch
+abbrev pub CheckStepsPromise : List ℕ × List ℕ × List ℕ × List ℕ → List ℕ → List ℕ → Result (Unit {0}) Refusal → Type 0
+CheckStepsPromise (set, plan, steps, theirs) scratch scratch' r = StepsChecked set plan steps theirs scratch scratch' (number_of r)
 
 -- ---- the claim
 pub record NothingLeft : Type 0 where

@@ -22,7 +22,7 @@ pub struct Place<'a> {
 
 impl Place<'_> {
     // The place of the node's second child: where its first child's tree ends.
-    pub fn second(self) -> usize
+    pub(crate) fn second(self) -> usize
         ensures { result ≡ min (self.entry.i + 1 + size (plan_at self.entry.plan.now (self.entry.i + 1))) (nodes_of self.entry.plan.now + 1) }
     {
         tree_end(self.plan, self.i + 1)

@@ -8,9 +8,9 @@ use Rattle.listing.specs.Listing.{shown_of}
 use Rattle.listing.proofs.CellLaws.{below-zero, not-below}
 use Rattle.listing.proofs.cell.cell_shown.Goals as goal
 
-pub returns-then-code-eqminus9223372036854775808 : goal.returns-then-code-eqminus9223372036854775808
+pub returns-then-code-blank : goal.returns-then-code-blank
 unfolding shown_of
-returns-then-code-eqminus9223372036854775808 c = sym (ap shown_of (sym (to_z-of_z c.ranges.code) ∙ ap (to_z w64) c.if-code-eqminus9223372036854775808.true))
+returns-then-code-blank c = sym (ap shown_of (sym (to_z-of_z c.ranges.code) ∙ ap (to_z w64) c.if-code-blank.true))
 
 pub returns-then-code-eq9223372036854775807 : goal.returns-then-code-eq9223372036854775807
 unfolding shown_of
@@ -19,7 +19,7 @@ returns-then-code-eq9223372036854775807 c = sym (ap shown_of (sym (to_z-of_z c.r
 pub returns-then-code-lt0 : goal.returns-then-code-lt0
 returns-then-code-lt0 c =
     let read = to_z-of_z c.ranges.code in
-    below-zero c.args.code c.unsigned_abs-size.result (λ e. c.if-code-eqminus9223372036854775808.false (ap (of_z w64) e)) (ap (λ (z : ℤ). lt_z z (pos 0)) (sym read) ∙ c.if-code-lt0.true) (c.unsigned_abs-size.ensures.value ∙ ap nat_abs read)
+    below-zero c.args.code c.unsigned_abs-size.result (λ e. c.if-code-blank.false (ap (of_z w64) e)) (ap (λ (z : ℤ). lt_z z (pos 0)) (sym read) ∙ c.if-code-lt0.true) (c.unsigned_abs-size.ensures.value ∙ ap nat_abs read)
 
 pub returns-else-code-lt0 : goal.returns-else-code-lt0
 returns-else-code-lt0 c =
