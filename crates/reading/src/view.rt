@@ -71,8 +71,7 @@ pub fn add_list(flags: [u8; 256], list: IdList) -> [u8; 256]
     marks
 }
 
-// Flags the columns that a node gives besides those of its children. It is compiled in, so that a node that gives none copies no flags.
-#[inline(always)]
+// Flags the columns that a node gives besides those of its children. Where it gives none the flags go back at once, and are copied once.
 fn add_own(flags: [u8; 256], set: &[u8], node: Node) -> [u8; 256]
     ensures { Adds flags (own_columns node.kind (tables_of set.now) node) result }
 {
@@ -82,7 +81,7 @@ fn add_own(flags: [u8; 256], set: &[u8], node: Node) -> [u8; 256]
         Kind::Project | Kind::Distinct => add_list(flags, node.list),
         Kind::Fold | Kind::Pair => add_id(flags, id),
         Kind::Group => add_id(add_id(flags, id), node.left),
-        _ => flags,
+        _ => return flags,
     }
 }
 

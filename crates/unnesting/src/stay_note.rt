@@ -26,7 +26,14 @@ fn note_at(input: Input<'_>, place: usize, scratch: &mut [u64]) -> Option<usize>
     let mut after = [0u8; 2086];
     // a match in place of `?`, so that an edit of the second arm alone is refused (must-fail, note_unfit)
     match possible_at(input, place, node, &mut after) {
-        Some(_) => sequences_at(input, place, node, scratch),
+        Some(_) => {
+            let note = sequences_at(input, place, node, scratch);
+            // said apart, so that an edit of this answer alone is refused (must-fail, note_refused_zero)
+            if note.is_none() {
+                return None;
+            }
+            note
+        }
         None => None,
     }
 }

@@ -1,7 +1,9 @@
+use Rattle.std.specs.Prelude.{Option, None, Some, is_none}
 use native.Mathlib.Omega.{arith}
-use mathlib.Core.Bool.{true}
-use mathlib.Core.Path.{◌≡◌, sym, ap, ◌∙◌}
-use Prim.Native.Nat.{◌<◌}
+use borrow.Author.Rules.{rules}
+use mathlib.Core.Bool.{true, false≢true}
+use mathlib.Core.Path.{◌≡◌, refl, sym, ap, ◌∙◌}
+use Prim.Native.Nat.{ℕ, ◌<◌}
 use Rattle.algebra.specs.Rules.{rule_of}
 use Rattle.algebra.specs.StayNotes.{comparing}
 use Rattle.reading.specs.Plan.{nodes_of}
@@ -34,19 +36,28 @@ pub returns-then-not-compares : goal.returns-then-not-compares
 returns-then-not-compares c =
     note_other c.args.input.set.now c.args.input.plan.now c.args.input.accepted c.args.place (inside (goal.at.returns-then-not-compares c).Else-nodes_of-place) (sym (rule (goal.at.returns-then-not-compares c).After-compares) ∙ c.if-not-compares.true)
 
-pub sequences_at-requires-clause-i_bound : goal.sequences_at-requires-clause-i_bound
-sequences_at-requires-clause-i_bound c =
-    let g = goal.at.sequences_at-requires-clause-i_bound c in
+pub sequences_at-note-requires-clause-i_bound : goal.sequences_at-note-requires-clause-i_bound
+sequences_at-note-requires-clause-i_bound c =
+    let g = goal.at.sequences_at-note-requires-clause-i_bound c in
     (inside g.Else-nodes_of-place, c.node_at-node.ensures, compared g.Else-not-compares (rule g.After-compares))
 
-pub sequences_at-requires-clause-i_nonzero : goal.sequences_at-requires-clause-i_nonzero
-sequences_at-requires-clause-i_nonzero c =
-    left-shape c.args.input.set.now c.args.input.plan.now c.args.input.accepted c.args.place (inside (goal.at.sequences_at-requires-clause-i_nonzero c).Else-nodes_of-place) _ _ _ c.in-Some.ensures
+pub sequences_at-note-requires-clause-i_nonzero : goal.sequences_at-note-requires-clause-i_nonzero
+sequences_at-note-requires-clause-i_nonzero c =
+    left-shape c.args.input.set.now c.args.input.plan.now c.args.input.accepted c.args.place (inside (goal.at.sequences_at-note-requires-clause-i_nonzero c).Else-nodes_of-place) _ _ _ c.in-Some.ensures
 
 pub returns-in-None : goal.returns-in-None
 returns-in-None c =
     note_impossible c.args.input.set.now c.args.input.plan.now c.args.input.accepted c.args.place (inside (goal.at.returns-in-None c).Else-nodes_of-place) c.in-None.ensures
 
-pub returns-in-Some : goal.returns-in-Some
-returns-in-Some c =
-    note_compared c.args.input.set.now c.args.input.plan.now c.args.input.accepted c.args.place (inside (goal.at.returns-in-Some c).Else-nodes_of-place) (compared (goal.at.returns-in-Some c).Else-not-compares (rule (goal.at.returns-in-Some c).After-compares)) _ _ _ c.in-Some.ensures _ c.sequences_at.ensures
+none-alone : (note : Option ℕ) → is_none note ≡ true → None ≡ note
+none-alone None e = refl
+none-alone (Some position) e = absurd (false≢true e)
+
+pub returns-then-is_none : goal.returns-then-is_none
+returns-then-is_none c =
+    none-alone c.sequences_at-note.result (search rules)
+    ∙ note_compared c.args.input.set.now c.args.input.plan.now c.args.input.accepted c.args.place (inside (goal.at.returns-then-is_none c).Else-nodes_of-place) (compared (goal.at.returns-then-is_none c).Else-not-compares (rule (goal.at.returns-then-is_none c).After-compares)) _ _ _ c.in-Some.ensures _ c.sequences_at-note.ensures
+
+pub returns-else-is_none : goal.returns-else-is_none
+returns-else-is_none c =
+    note_compared c.args.input.set.now c.args.input.plan.now c.args.input.accepted c.args.place (inside (goal.at.returns-else-is_none c).Else-nodes_of-place) (compared (goal.at.returns-else-is_none c).Else-not-compares (rule (goal.at.returns-else-is_none c).After-compares)) _ _ _ c.in-Some.ensures _ c.sequences_at-note.ensures
